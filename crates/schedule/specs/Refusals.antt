@@ -1,0 +1,13 @@
+-- The list of refusals: the number of each case.
+use Prim.Native.Nat.{ℕ}
+use Rattle.schedule.specs.declared.refusal.Refusal.{Refusal}
+use Rattle.schedule.specs.declared.refusal.Refusal.the-variants.{NotAFrame, SizeOutOfLimits, OffsetCount, UnknownDomain, DomainWithoutSlot, OffsetTooLarge, WaveBroken}
+
+abbrev pub number : Refusal → ℕ
+number NotAFrame = 1
+number (SizeOutOfLimits size) = 2
+number OffsetCount = 3
+number (UnknownDomain slot) = 4
+number (DomainWithoutSlot domain) = 5
+number (OffsetTooLarge router port) = 6
+number (WaveBroken router side) = 7

@@ -1,0 +1,25 @@
+// The sizes of a mesh and its queues. The sixth size of a plan, its period, is the length of its slot list.
+#[derive(Clone, Copy, PartialEq, Eq)]
+pub struct Sizes {
+    // columns of routers
+    pub width: u8,
+    // rows of routers
+    pub height: u8,
+    // domains that share the mesh
+    pub domains: u8,
+    // places for packets in each virtual channel queue
+    pub depth: u8,
+    // cycles from leaving one router to being ready at the next
+    pub hop: u8,
+}
+
+// Which of a plan's six sizes.
+#[derive(Clone, Copy, PartialEq, Eq)]
+pub enum Size {
+    Width,
+    Height,
+    Domains,
+    Depth,
+    Hop,
+    Period,
+}

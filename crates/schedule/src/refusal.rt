@@ -1,6 +1,7 @@
 ghost use mathlib.Core.Path.{_≡_};
 ghost use Rattle.schedule.specs.Refusals.{number as number-of};
 use super::sizes::Size;
+use super::sizes::SizePartialEq;
 
 // Why a line or a plan is turned away, with the place of the fault.
 #[derive(Clone, Copy, PartialEq, Eq)]

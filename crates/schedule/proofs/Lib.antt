@@ -1,0 +1,5 @@
+mod First
+mod Kept
+mod Outcomes
+mod Padded
+mod Refuse

@@ -1,0 +1,46 @@
+-- Plans: the timetable that a plan holds, and what a plan call leaves.
+use mathlib.Core.Bool.{Bool, true, false, cond, _&&_}
+use mathlib.Core.List.{List, [], _∷_}
+use Prim.Native.Nat.{ℕ}
+use lib.Dec.{ltb}
+use lib.ListN.{length, take}
+use Rattle.std.specs.declared.option.Option.{Option}
+use Rattle.std.specs.declared.option.Option.the-variants.{Some, None}
+use Rattle.std.specs.declared.result.Result.{Result}
+use Rattle.std.specs.declared.result.Result.the-variants.{Ok, Err}
+use Rattle.schedule.specs.declared.plan.Plan.{Plan}
+use Rattle.schedule.specs.declared.refusal.Refusal.{Refusal}
+use Rattle.schedule.specs.declared.sizes.Sizes.{Sizes}
+use Rattle.schedule.specs.Mesh.{neighbour-of}
+use Rattle.schedule.specs.Timetable.{Timetable, timetable, routers, ports, share}
+use Rattle.schedule.specs.Turns.{owner, gap}
+use Rattle.schedule.specs.Verdict.{verdict, answered}
+
+-- what lies past the period and the ports in a plan's arrays is 0, so a plan is its timetable and nothing more
+abbrev pub timetable-of : Plan → Timetable
+timetable-of plan = timetable (plan .sizes) (take (plan .period) (plan .slots)) (take (ports (plan .sizes)) (plan .offsets))
+
+-- one router, one domain, one place in a queue, one cycle for a hop and one slot
+abbrev pub smallest : Timetable
+smallest = timetable (record { width = 1; height = 1; domains = 1; depth = 1; hop = 1 }) (0 ∷ []) (0 ∷ 0 ∷ 0 ∷ 0 ∷ 0 ∷ [])
+
+-- what a plan call answers, and the timetable that the caller's plan holds afterwards
+pub record Outcome : Type 0 where
+  pub answer : Result (Unit {0}) Refusal
+  pub held : Timetable
+
+abbrev pub outcome : Result (Unit {0}) Refusal → Timetable → Outcome
+outcome answer held = record { answer = answer; held = held }
+
+-- an accepted timetable replaces the one held, a refused one leaves it
+abbrev pub replaced-by : Option Refusal → Timetable → Timetable → Outcome
+replaced-by None new held = outcome (answered None) new
+replaced-by (Some why) new held = outcome (answered (Some why)) held
+
+abbrev pub replaced : Timetable → Timetable → Outcome
+replaced new held = replaced-by (verdict new) new held
+
+-- what is asked of a router or a domain is answered within the mesh and the domains, and by none outside
+abbrev pub inside : {X : Type 0} → Bool → X → Option X
+inside true x = Some x
+inside false x = None

@@ -22,6 +22,7 @@ first-at p (suc n) i l h e = ⊎-elim (λ m. below (first-at p n i m h e) m) her
   where
     below : first p n ≡ i → i < n → first p (suc n) ≡ i
     below f m = let g : ltb (first p n) n ≡ true = lt-ltb (first p n) n (omega arith) in rw (g, f)
+
     here : n ≤ i → first p (suc n) ≡ i
     here m =
         let q : n ≡ i = omega arith in
@@ -46,7 +47,8 @@ first-tells p (suc n) = go (first-tells p n) (ltb (first p n) n) refl (p n) refl
         rw (e, f) (omega arith, (λ k l. h .1 k (omega arith)), λ _. f)
     go h false e false f =
         let q : first p n ≡ n = omega (arith, ltb-false (first p n) n e) in
-        rw (e, f)
-        (omega arith,
-        (λ k l. ⊎-elim (λ m. h .1 k (omega arith)) (λ m. let s : n ≡ k = omega arith in subst (λ x. p x ≡ false) s f) (cases-lt k n)),
-        λ l. absurd (omega arith))
+        rw (e, f) (
+          omega arith,
+          (λ k l. ⊎-elim (λ m. h .1 k (omega arith)) (λ m. let s : n ≡ k = omega arith in subst (λ x. p x ≡ false) s f) (cases-lt k n)),
+          λ l. absurd (omega arith),
+        )

@@ -18,7 +18,7 @@ use Rattle.schedule.specs.declared.sizes.Size.the-variants.{Width, Height, Dom
 use Rattle.schedule.specs.declared.sizes.Sizes.{Sizes}
 use Rattle.schedule.specs.Mesh.{neighbour-of}
 use Rattle.schedule.specs.Timetable.{Timetable, routers, ports, offset, share, From1To, Link, SlotsNameDomains, DomainsHaveSlots, OffsetsBelow, WaveRule}
-use Rattle.schedule.specs.Verdict.{earliest, limit, size-check, count-check, slot-check, domain-check, offset-check, breaks-at, breaks, wave-check, verdict, WithinLimits, Keeps}
+use Rattle.schedule.specs.Verdict.{earliest, limit, size-check, count-check, slot-check, domain-check, offset-check, breaks-at, breaks, wave-check, verdict, WithinLimits, Assigned, Keeps}
 use Rattle.schedule.proofs.Refuse.{refused-none, none-fails}
 
 -- no refusal at the head of a chain of checks, and none in the rest
@@ -60,9 +60,14 @@ sizes-kept sizes period e =
 
 pub sizes-pass : (sizes : Sizes) (period : ℕ) → WithinLimits sizes period → size-check sizes period ≡ None
 sizes-pass sizes period h =
-    rw (limit-passes Width 8 (sizes .width) (h .width), limit-passes Height 8 (sizes .height) (h .height),
-    limit-passes Domains 8 (sizes .domains) (h .domains), limit-passes Depth 4 (sizes .depth) (h .depth),
-    limit-passes Hop 8 (sizes .hop) (h .hop), limit-passes Period 64 period (h .period-limit))
+    rw (
+      limit-passes Width 8 (sizes .width) (h .width),
+      limit-passes Height 8 (sizes .height) (h .height),
+      limit-passes Domains 8 (sizes .domains) (h .domains),
+      limit-passes Depth 4 (sizes .depth) (h .depth),
+      limit-passes Hop 8 (sizes .hop) (h .hop),
+      limit-passes Period 64 period (h .period-limit),
+    )
 
 count-kept : (sizes : Sizes) (offsets : List ℕ) → count-check sizes offsets ≡ None → length offsets ≡ ports sizes
 count-kept sizes offsets e = go (eqb (length offsets) (ports sizes)) refl
@@ -88,7 +93,7 @@ in-step sizes period offsets wave router side l m = go (neighbour-of (sizes .wid
     go None e = refl
     go (Some to) e =
         let link : Link sizes =
-            record { from = router; side = side; to = to; from-inside = l; side-outward = m; leads = e } in
+        record { from = router; side = side; to = to; from-inside = l; side-outward = m; leads = e } in
         ap not (eq-eqb _ _ (wave link))
 
 wave-kept : (sizes : Sizes) (period : ℕ) (offsets : List ℕ) → wave-check sizes period offsets ≡ None → WaveRule sizes period offsets
@@ -98,7 +103,7 @@ wave-kept sizes period offsets e link =
     let d : (r * 4 + s) / 4 ≡ r = div-mul-add r 4 s (link .side-outward) in
     let m : (r * 4 + s) % 4 ≡ s = mod-mul-add r 4 s (link .side-outward) in
     let f = none-fails (λ k. breaks sizes period offsets (k / 4) (k % 4)) (routers sizes * 4) (λ k. WaveBroken (k / 4) (k % 4)) e
-        (r * 4 + s) (omega (arith, link .from-inside, link .side-outward)) in
+    (r * 4 + s) (omega (arith, link .from-inside, link .side-outward)) in
     unbroken sizes period offsets link (rw (d, m) at f)
 
 -- what an accepted timetable keeps
@@ -111,10 +116,12 @@ accepted-keeps t e =
     let f = none-parts _ _ (d .1) in
     let g = none-parts _ _ (f .1) in
     record {
-      limits = sizes-kept (t .sizes) (length (t .slots)) (a .0);
+      assigned = record {
+        limits = sizes-kept (t .sizes) (length (t .slots)) (a .0);
+        named = λ k l. leb-false _ _ (none-fails (λ i. leb (t .sizes .domains) (getD (t .slots) i 0)) _ UnknownDomain (c .0) k l);
+        shared = λ k l. (let n = eqb-false _ _ (none-fails (λ i. eqb (share (t .slots) i) 0) _ DomainWithoutSlot (d .0) k l) in omega arith);
+      };
       counted = count-kept (t .sizes) (t .offsets) (b .0);
-      named = λ k l. leb-false _ _ (none-fails (λ i. leb (t .sizes .domains) (getD (t .slots) i 0)) _ UnknownDomain (c .0) k l);
-      shared = λ k l. (let n = eqb-false _ _ (none-fails (λ i. eqb (share (t .slots) i) 0) _ DomainWithoutSlot (d .0) k l) in omega arith);
       below = λ k l. leb-false _ _
           (none-fails (λ i. leb (length (t .slots)) (getD (t .offsets) i 0)) _ (λ i. OffsetTooLarge (i / 5) (i % 5)) (f .0) k l);
       wave = wave-kept (t .sizes) (length (t .slots)) (t .offsets) (g .0);
@@ -124,16 +131,16 @@ accepted-keeps t e =
 pub keeps-accepted : (t : Timetable) → Keeps t → verdict t ≡ None
 keeps-accepted t h =
     let period = length (t .slots) in
-    let slots-pass : slot-check (t .sizes) (t .slots) ≡ None = refused-none _ _ _ (λ k l. lt-leb _ _ (h .named k l)) in
+    let slots-pass : slot-check (t .sizes) (t .slots) ≡ None = refused-none _ _ _ (λ k l. lt-leb _ _ (h .assigned .named k l)) in
     let domains-pass : domain-check (t .sizes) (t .slots) ≡ None =
-        refused-none (λ d. eqb (share (t .slots) d) 0) _ _ (λ k l. ne-eqb (share (t .slots) k) 0 (λ e. omega (arith, h .shared k l))) in
+    refused-none (λ d. eqb (share (t .slots) d) 0) _ _ (λ k l. ne-eqb (share (t .slots) k) 0 (λ e. omega (arith, h .assigned .shared k l))) in
     let offsets-pass : offset-check period (t .offsets) ≡ None = refused-none _ _ _ (λ k l. lt-leb _ _ (h .below k l)) in
     let wave-passes : wave-check (t .sizes) period (t .offsets) ≡ None =
-        refused-none (λ k. breaks (t .sizes) period (t .offsets) (k / 4) (k % 4)) (routers (t .sizes) * 4) (λ k. WaveBroken (k / 4) (k % 4))
-        (λ k l. in-step (t .sizes) period (t .offsets) (h .wave) (k / 4) (k % 4)
-        (div-below k 4 (routers (t .sizes)) (omega arith) l) (mod-below k 4 (omega arith))) in
+    refused-none (λ k. breaks (t .sizes) period (t .offsets) (k / 4) (k % 4)) (routers (t .sizes) * 4) (λ k. WaveBroken (k / 4) (k % 4))
+    (λ k l. in-step (t .sizes) period (t .offsets) (h .wave) (k / 4) (k % 4)
+    (div-below k 4 (routers (t .sizes)) (omega arith) l) (mod-below k 4 (omega arith))) in
     let enough = eq-eqb (length (t .offsets)) (ports (t .sizes)) (h .counted) in
     let count-passes : count-check (t .sizes) (t .offsets) ≡ None = rw enough in
-    none-from _ _ (sizes-pass (t .sizes) period (h .limits))
+    none-from _ _ (sizes-pass (t .sizes) period (h .assigned .limits))
     (none-from _ _ count-passes
     (none-from _ _ slots-pass (none-from _ _ domains-pass (none-from _ _ offsets-pass (none-from _ _ wave-passes refl)))))

@@ -3,6 +3,7 @@ use mathlib.Core.Path.{_≡_, refl, sym, ap, _∙_}
 use mathlib.Core.Bool.{true}
 use Prim.Native.Nat.{ℕ}
 use native.Mathlib.Omega.{arith}
+use lib.ListN.{length}
 use Rattle.std.specs.declared.option.Option.{Option}
 use Rattle.std.specs.declared.option.Option.the-variants.{Some, None}
 use Rattle.std.specs.declared.result.Result.{Result}
@@ -12,7 +13,7 @@ use Rattle.std.specs.Results.{isOk}
 use Rattle.schedule.specs.declared.refusal.Refusal.{Refusal}
 use Rattle.schedule.specs.Plans.{outcome, replaced-by}
 use Rattle.schedule.specs.Timetable.{Timetable}
-use Rattle.schedule.specs.Verdict.{answered, verdict, Keeps}
+use Rattle.schedule.specs.Verdict.{answered, size-check, verdict, Keeps}
 use Rattle.schedule.proofs.Kept.{accepted-keeps, keeps-accepted}
 
 -- two answers that are apart
@@ -37,6 +38,11 @@ left-old new held v why e = rw e
 -- an answer tells whether the timetable keeps what a plan keeps
 pub decides-keeps : (t : Timetable) (r : Result (Unit {0}) Refusal) → r ≡ answered (verdict t) → Decides (isOk r) (Keeps t)
 decides-keeps t (Ok tt) e = ((λ _. accepted-keeps t (passed (verdict t) e)), λ _. refl)
-decides-keeps t (Err why) e =
-    ((λ f. absurd (let z : _≡_ {A = ℕ} 0 1 = cc in omega arith)),
-    λ k. absurd (err-not-ok (e ∙ ap answered (keeps-accepted t k))))
+decides-keeps t (Err why) e = (
+  (λ f. absurd (let z : _≡_ {A = ℕ} 0 1 = cc in omega arith)),
+  λ k. absurd (err-not-ok (e ∙ ap answered (keeps-accepted t k))),
+)
+
+-- a size outside its limits is refused before anything else
+pub sizes-first : (t : Timetable) (why : Refusal) → size-check (t .sizes) (length (t .slots)) ≡ Some why → verdict t ≡ Some why
+sizes-first t why e = rw e

@@ -11,14 +11,19 @@ use Rattle.std.specs.declared.result.Result.the-variants.{Ok, Err}
 use Rattle.schedule.specs.declared.plan.Plan.{Plan}
 use Rattle.schedule.specs.declared.refusal.Refusal.{Refusal}
 use Rattle.schedule.specs.declared.sizes.Sizes.{Sizes}
+use Rattle.schedule.specs.Built.{built}
 use Rattle.schedule.specs.Mesh.{neighbour-of}
-use Rattle.schedule.specs.Timetable.{Timetable, timetable, routers, ports, share}
+use Rattle.schedule.specs.Timetable.{Timetable, timetable, routers, ports, share, WaveRule}
 use Rattle.schedule.specs.Turns.{owner, gap}
-use Rattle.schedule.specs.Verdict.{verdict, answered}
+use Rattle.schedule.specs.Verdict.{verdict, answered, WithinLimits}
 
 -- what lies past the period and the ports in a plan's arrays is 0, so a plan is its timetable and nothing more
 abbrev pub timetable-of : Plan → Timetable
 timetable-of plan = timetable (plan .sizes) (take (plan .period) (plan .slots)) (take (ports (plan .sizes)) (plan .offsets))
+
+-- built offsets keep the wave rule for every size within its limits
+abbrev pub BuiltKeepsWave : Sizes → ℕ → Type 0
+BuiltKeepsWave sizes period = WithinLimits sizes period → WaveRule sizes period (built sizes period)
 
 -- one router, one domain, one place in a queue, one cycle for a hop and one slot
 abbrev pub smallest : Timetable
@@ -40,7 +45,24 @@ replaced-by (Some why) new held = outcome (answered (Some why)) held
 abbrev pub replaced : Timetable → Timetable → Outcome
 replaced new held = replaced-by (verdict new) new held
 
--- what is asked of a router or a domain is answered within the mesh and the domains, and by none outside
-abbrev pub inside : {X : Type 0} → Bool → X → Option X
-inside true x = Some x
-inside false x = None
+-- an answer about something that the plan has, none about anything else
+abbrev pub known : {X : Type 0} → Bool → X → Option X
+known true x = Some x
+known false x = None
+
+-- the domain that a port belongs to in a cycle, for the routers and ports of the mesh
+abbrev pub owner-of : Plan → ℕ → ℕ → ℕ → Option ℕ
+owner-of plan router port cycle =
+    known (ltb router (routers (plan .sizes)) && ltb port 5) (owner (timetable-of plan) router port cycle)
+
+-- a domain's longest gap and its share of the slots, for the plan's domains
+abbrev pub gap-of : Plan → ℕ → Option ℕ
+gap-of plan domain = known (ltb domain (plan .sizes .domains)) (gap (timetable-of plan .slots) domain)
+
+abbrev pub share-of : Plan → ℕ → Option ℕ
+share-of plan domain = known (ltb domain (plan .sizes .domains)) (share (timetable-of plan .slots) domain)
+
+-- the router on a side of another, for the routers of the mesh
+abbrev pub beside : Plan → ℕ → ℕ → Option ℕ
+beside plan router side =
+    cond (ltb router (routers (plan .sizes))) (neighbour-of (plan .sizes .width) (plan .sizes .height) router side) None

@@ -90,11 +90,15 @@ pub record WithinLimits (sizes : Sizes) (period : ℕ) : Type 0 where
   pub hop : From1To 8 (sizes .hop)
   pub period-limit : From1To 64 period
 
+-- sizes within their limits, and slots that name each of the plan's domains and no other
+pub record Assigned (sizes : Sizes) (slots : List ℕ) : Type 0 where
+  pub limits : WithinLimits sizes (length slots)
+  pub named : SlotsNameDomains (sizes .domains) slots
+  pub shared : DomainsHaveSlots (sizes .domains) slots
+
 -- what a timetable keeps exactly when it is accepted
 pub record Keeps (t : Timetable) : Type 0 where
-  pub limits : WithinLimits (t .sizes) (length (t .slots))
+  pub assigned : Assigned (t .sizes) (t .slots)
   pub counted : length (t .offsets) ≡ ports (t .sizes)
-  pub named : SlotsNameDomains (t .sizes .domains) (t .slots)
-  pub shared : DomainsHaveSlots (t .sizes .domains) (t .slots)
   pub below : OffsetsBelow (length (t .slots)) (t .offsets)
   pub wave : WaveRule (t .sizes) (length (t .slots)) (t .offsets)

@@ -86,7 +86,10 @@ fn check_offsets(period: u8, offsets: &[u8]) -> Result<(), Refusal>
 {
     for k in 0..offsets.len() {
         if period <= offsets[k] {
-            return Err(Refusal::OffsetTooLarge { router: (k / 5) as u8, port: (k % 5) as u8 });
+            return Err(Refusal::OffsetTooLarge {
+                router: (k / 5) as u8,
+                port: (k % 5) as u8,
+            });
         }
     }
     Ok(())

@@ -25,7 +25,10 @@ pub(crate) fn position_of(width: u8, router: u8) -> Position
     requires { ⌜ 1 ≤ width ⌝ }
     ensures { λ r. ⌜ r ≡ position-of width router ⌝ }
 {
-    Position { column: router % width, row: router / width }
+    Position {
+        column: router % width,
+        row: router / width,
+    }
 }
 
 // The position on a side of another, where the mesh has one there.
@@ -36,22 +39,34 @@ fn beside(sizes: Sizes, at: Position, side: u8) -> Option<Position>
 {
     match side {
         0 => if at.column + 1 < sizes.width {
-            Some(Position { column: at.column + 1, row: at.row })
+            Some(Position {
+                column: at.column + 1,
+                row: at.row,
+            })
         } else {
             None
         },
         1 => if 0 < at.column {
-            Some(Position { column: at.column - 1, row: at.row })
+            Some(Position {
+                column: at.column - 1,
+                row: at.row,
+            })
         } else {
             None
         },
         2 => if at.row + 1 < sizes.height {
-            Some(Position { column: at.column, row: at.row + 1 })
+            Some(Position {
+                column: at.column,
+                row: at.row + 1,
+            })
         } else {
             None
         },
         3 => if 0 < at.row {
-            Some(Position { column: at.column, row: at.row - 1 })
+            Some(Position {
+                column: at.column,
+                row: at.row - 1,
+            })
         } else {
             None
         },

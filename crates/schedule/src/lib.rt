@@ -6,3 +6,4 @@ pub mod plan;
 pub mod planning;
 pub mod refusal;
 pub mod sizes;
+pub mod timing;

@@ -5,10 +5,12 @@ ghost use lib.ListN.{length};
 ghost use Rattle.std.specs.Orderings.{Decides};
 ghost use Rattle.std.specs.Results.{isOk};
 ghost use Rattle.schedule.specs.Built.{built};
-ghost use Rattle.schedule.specs.Plans.{timetable-of, smallest as smallest-timetable, outcome, replaced};
+ghost use Rattle.schedule.specs.Plans.{timetable-of, BuiltKeepsWave, smallest as smallest-timetable, outcome, replaced};
 ghost use Rattle.schedule.specs.Timetable.{timetable, padded, ports as port-count};
-ghost use Rattle.schedule.specs.Verdict.{Keeps};
+ghost use Rattle.schedule.specs.Verdict.{Keeps, Assigned};
+use super::build::built_offsets;
 use super::check::check;
+use super::check::check_sizes;
 use super::plan::Plan;
 use super::refusal::Refusal;
 use super::sizes::Sizes;
@@ -31,7 +33,13 @@ impl Plan {
         ensures { λ r. ⌜ timetable-of r ≡ smallest-timetable ⌝ }
     {
         Plan {
-            sizes: Sizes { width: 1, height: 1, domains: 1, depth: 1, hop: 1 },
+            sizes: Sizes {
+                width: 1,
+                height: 1,
+                domains: 1,
+                depth: 1,
+                hop: 1,
+            },
             period: 1,
             slots: [0; 64],
             offsets: [0; 320],
@@ -45,7 +53,25 @@ impl Plan {
         ensures accepted { λ r. ⌜ Decides (isOk r) (Keeps (timetable sizes (now (slots .entry)) (now (offsets .entry)))) ⌝ }
     {
         check(sizes, slots, offsets)?;
-        *self = Plan { sizes, period: slots.len() as u8, slots: stored(slots), offsets: stored(offsets) };
+        *self = Plan {
+            sizes,
+            period: slots.len() as u8,
+            slots: stored(slots),
+            offsets: stored(offsets),
+        };
         Ok(())
+    }
+
+    // Takes up a timetable whose offsets are built so that each domain's turns run over the mesh as waves.
+    pub fn adopt_built(&mut self, sizes: Sizes, slots: &[u8]) -> Result<(), Refusal>
+        ensures left { λ r. ⌜ outcome r (timetable-of (now (self .exit)))
+            ≡ replaced (timetable sizes (now (slots .entry)) (built sizes (length (now (slots .entry))))) (timetable-of (now (self .entry))) ⌝ }
+        ensures accepted { λ r. ⌜ Decides (isOk r) (Assigned sizes (now (slots .entry))) ⌝ }
+        ensures wave { λ _. ⌜ BuiltKeepsWave sizes (length (now (slots .entry))) ⌝ }
+    {
+        check_sizes(sizes, slots.len())?;
+        let ports = sizes.width as usize * sizes.height as usize * 5;
+        let offsets = built_offsets(sizes, slots.len() as u8);
+        self.adopt(sizes, slots, &offsets[0..ports])
     }
 }

@@ -16,12 +16,12 @@ loop-slot-again c =
     let i = c .loop-slot .slot-index in
     let d = c .args .domain in
     elim (c .if-slot-domain .came) [
-      then-slot-domain w ↦
-        (let e = countBy-more-yes (λ s. eqb s d) xs i 0 (omega arith) (eq-eqb (getD xs i 0) d (w .if-slot-domain .taken)) in
-        (omega (arith, e, w .named-is), omega (arith, w .named-is)))
-    | else-slot-domain w ↦
-        (let e = countBy-more-no (λ s. eqb s d) xs i 0 (omega arith) (ne-eqb (getD xs i 0) d (w .if-slot-domain .left)) in
-        (omega (arith, e, w .named-is), omega (arith, w .named-is)))
+      | then-slot-domain w ↦
+          (let e = countBy-more-yes (λ s. eqb s d) xs i 0 (omega arith) (eq-eqb (getD xs i 0) d (w .if-slot-domain .taken)) in
+          (omega (arith, e, w .named-is), omega (arith, w .named-is)))
+      | else-slot-domain w ↦
+          (let e = countBy-more-no (λ s. eqb s d) xs i 0 (omega arith) (ne-eqb (getD xs i 0) d (w .if-slot-domain .left)) in
+          (omega (arith, e, w .named-is), omega (arith, w .named-is)))
     ]
 
 pub returns : need.returns

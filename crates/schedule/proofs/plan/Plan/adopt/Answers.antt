@@ -38,17 +38,43 @@ ghost-self c =
     let period = length (c .args .slots .now) in
     let t = timetable sizes (c .args .slots .now) (c .args .offsets .now) in
     let keeps = accepted-keeps t (passed (verdict t) (c .in-Continue-check .ensures tt)) in
-    let limits = keeps .limits in
+    let limits = keeps .assigned .limits in
     let slots = sym (ap (take period) (c .stored .ensures) ∙ take-padded 64 (c .args .slots .now) period refl) in
     let offsets = sym (ap (take (ports sizes)) (c .stored-2 .ensures)
-        ∙ take-padded 320 (c .args .offsets .now) (ports sizes) (sym (keeps .counted))) in
-    (limits .width, (limits .height, (limits .domains, (limits .depth, (limits .hop, (limits .period-limit,
-    (subst (SlotsNameDomains (sizes .domains)) slots (keeps .named),
-    (subst (DomainsHaveSlots (sizes .domains)) slots (keeps .shared),
-    (subst (OffsetsBelow period) offsets (keeps .below),
-    (subst (WaveRule sizes period) offsets (keeps .wave),
-    (c .stored .ensures ∙ ap (padded 64) slots,
-    (c .stored-2 .ensures ∙ ap (padded 320) offsets, tt))))))))))))
+    ∙ take-padded 320 (c .args .offsets .now) (ports sizes) (sym (keeps .counted))) in (
+      limits .width,
+      (
+        limits .height,
+        (
+          limits .domains,
+          (
+            limits .depth,
+            (
+              limits .hop,
+              (
+                limits .period-limit,
+                (
+                  subst (SlotsNameDomains (sizes .domains)) slots (keeps .assigned .named),
+                  (
+                    subst (DomainsHaveSlots (sizes .domains)) slots (keeps .assigned .shared),
+                    (
+                      subst (OffsetsBelow period) offsets (keeps .below),
+                      (
+                        subst (WaveRule sizes period) offsets (keeps .wave),
+                        (
+                          c .stored .ensures ∙ ap (padded 64) slots,
+                          (c .stored-2 .ensures ∙ ap (padded 320) offsets, tt),
+                        ),
+                      ),
+                    ),
+                  ),
+                ),
+              ),
+            ),
+          ),
+        ),
+      ),
+    )
 
 pub returns : need.returns
 returns c =
@@ -59,7 +85,7 @@ returns c =
     let keeps = accepted-keeps t (passed (verdict t) e) in
     let slots = ap (take period) (c .stored .ensures) ∙ take-padded 64 (c .args .slots .now) period refl in
     let offsets = ap (take (ports sizes)) (c .stored-2 .ensures)
-        ∙ take-padded 320 (c .args .offsets .now) (ports sizes) (sym (keeps .counted)) in
+    ∙ take-padded 320 (c .args .offsets .now) (ports sizes) (sym (keeps .counted)) in
     record {
       left = (λ i. outcome (Ok tt) (timetable sizes (slots i) (offsets i)))
           ∙ left-new t (timetable-of (c .args .self .now)) (verdict t) (passed (verdict t) e);

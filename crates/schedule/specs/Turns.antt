@@ -19,6 +19,10 @@ owner t router port cycle = turn (t .slots) (cycle + offset (t .offsets) router 
 abbrev pub until-next : List ℕ → ℕ → ℕ → ℕ
 until-next slots domain k = 1 + first (λ j. eqb (turn slots (k + 1 + j)) domain) (length slots)
 
+-- the same from a slot of the domain's own, 0 from any other
+abbrev pub gap-from : List ℕ → ℕ → ℕ → ℕ
+gap-from slots domain k = cond (eqb (getD slots k 0) domain) (until-next slots domain k) 0
+
 -- the largest number of cycles from one of the domain's slots to its next
 abbrev pub gap : List ℕ → ℕ → ℕ
-gap slots domain = largest (λ k. cond (eqb (getD slots k 0) domain) (until-next slots domain k) 0) (length slots)
+gap slots domain = largest (gap-from slots domain) (length slots)

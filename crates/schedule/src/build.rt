@@ -5,6 +5,7 @@ ghost use Rattle.schedule.specs.Built.{built as built-list, built-offset as bu
 ghost use Rattle.schedule.specs.Timetable.{From1To, padded, ports as port-count};
 ghost use Rattle.schedule.specs.Verdict.{WithinLimits};
 use super::geometry::position_of;
+use super::geometry::routers;
 use super::sizes::Sizes;
 
 // The offset of a port of a router that is so many cycles of hops away from column 0 and row 0.
@@ -32,7 +33,7 @@ pub(crate) fn built_offsets(sizes: Sizes, period: u8) -> [u8; 320]
     requires { ⌜ WithinLimits sizes period ⌝ }
     ensures { λ r. ⌜ r ≡ padded 320 (built-list sizes period) ⌝ }
 {
-    let ports = sizes.width as usize * sizes.height as usize * 5;
+    let ports = routers(sizes) as usize * 5;
     let mut offsets = [0; 320];
     for k in 0..ports {
         offsets[k] = built_entry(sizes, period, k);

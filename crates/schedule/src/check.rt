@@ -6,6 +6,7 @@ ghost use Rattle.std.specs.Vec.{made};
 ghost use Rattle.schedule.specs.Timetable.{timetable, From1To, routers as router-count, ports as port-count, share as share-of};
 ghost use Rattle.schedule.specs.Verdict.{answered, verdict, limit, size-check, count-check, slot-check, domain-check, offset-check, wave-check, breaks, WithinLimits};
 use super::geometry::neighbour;
+use super::geometry::routers;
 use super::refusal::Refusal;
 use super::sizes::Size;
 use super::sizes::Sizes;
@@ -38,7 +39,7 @@ fn check_count(sizes: Sizes, offsets: &[u8]) -> Result<(), Refusal>
     ensures is { λ r. ⌜ r ≡ answered (count-check sizes (now (offsets .entry))) ⌝ }
     ensures kept { λ r. ⌜ made r (λ _. length (now (offsets .entry)) ≡ port-count sizes) ⌝ }
 {
-    if offsets.len() != sizes.width as usize * sizes.height as usize * 5 {
+    if offsets.len() != routers(sizes) as usize * 5 {
         return Err(Refusal::OffsetCount);
     }
     Ok(())
@@ -58,7 +59,8 @@ fn check_slots(sizes: Sizes, slots: &[u8]) -> Result<(), Refusal>
 
 // How many slots name a domain.
 pub(crate) fn share(slots: &[u8], domain: u8) -> usize
-    ensures { λ r. ⌜ r ≡ share-of (now (slots .entry)) domain ⌝ }
+    ensures is { λ r. ⌜ r ≡ share-of (now (slots .entry)) domain ⌝ }
+    ensures few { λ r. ⌜ r ≤ length (now (slots .entry)) ⌝ }
 {
     let mut named = 0;
     for slot in slots {
@@ -116,7 +118,7 @@ fn check_wave(sizes: Sizes, period: u8, offsets: &[u8]) -> Result<(), Refusal>
     requires counted { ⌜ length (now offsets) ≡ port-count sizes ⌝ }
     ensures { λ r. ⌜ r ≡ answered (wave-check sizes period (now (offsets .entry))) ⌝ }
 {
-    let routers = sizes.width * sizes.height;
+    let routers = routers(sizes);
     let mut found = Ok(());
     'scan: for router in 0..routers {
         for side in 0..4 {

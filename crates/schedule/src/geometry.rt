@@ -20,6 +20,16 @@ pub fn hops(from: Position, to: Position) -> u16
     u16::from(from.column.abs_diff(to.column)) + u16::from(from.row.abs_diff(to.row))
 }
 
+// How many routers the mesh has.
+pub(crate) fn routers(sizes: Sizes) -> u8
+    requires width { ⌜ From1To 8 (sizes .width) ⌝ }
+    requires height { ⌜ From1To 8 (sizes .height) ⌝ }
+    ensures is { λ r. ⌜ r ≡ router-count sizes ⌝ }
+    ensures few { λ r. ⌜ r ≤ 64 ⌝ }
+{
+    sizes.width * sizes.height
+}
+
 // Where a router stands in a mesh of `width` columns.
 pub(crate) fn position_of(width: u8, router: u8) -> Position
     requires { ⌜ 1 ≤ width ⌝ }

@@ -11,6 +11,7 @@ ghost use Rattle.schedule.specs.Verdict.{Keeps, Assigned};
 use super::build::built_offsets;
 use super::check::check;
 use super::check::check_sizes;
+use super::geometry::routers;
 use super::plan::Plan;
 use super::refusal::Refusal;
 use super::sizes::Sizes;
@@ -70,7 +71,7 @@ impl Plan {
         ensures wave { λ _. ⌜ BuiltKeepsWave sizes (length (now (slots .entry))) ⌝ }
     {
         check_sizes(sizes, slots.len())?;
-        let ports = sizes.width as usize * sizes.height as usize * 5;
+        let ports = routers(sizes) as usize * 5;
         let offsets = built_offsets(sizes, slots.len() as u8);
         self.adopt(sizes, slots, &offsets[0..ports])
     }

@@ -3,18 +3,27 @@ ghost use mathlib.Core.Path.{_≡_};
 ghost use Prim.Native.Nat.{ℕ, _+_, _<_, _≤_};
 ghost use lib.ListN.{take};
 ghost use Rattle.schedule.specs.Plans.{owner-of, gap-of, share-of, beside as beside-of};
+ghost use Rattle.schedule.specs.Timetable.{routers as router-count};
 ghost use Rattle.schedule.specs.Turns.{until-next as until-next-of};
 use super::check::share;
 use super::geometry::neighbour;
+use super::geometry::routers;
 use super::plan::Plan;
 
 impl Plan {
+    // How many routers the mesh has.
+    pub fn routers(&self) -> u8
+        ensures is { λ r. ⌜ r ≡ router-count (now (self .entry) .sizes) ⌝ }
+        ensures few { λ r. ⌜ r ≤ 64 ⌝ }
+    {
+        routers(self.sizes)
+    }
+
     // The domain that a port belongs to in a cycle; none where the mesh has no such router or port.
     pub fn owner(&self, router: u8, port: u8, cycle: u32) -> Option<u8>
         ensures { λ r. ⌜ r ≡ owner-of (now (self .entry)) router port cycle ⌝ }
     {
-        let routers = self.sizes.width * self.sizes.height;
-        if router >= routers || port >= 5 {
+        if router >= self.routers() || port >= 5 {
             return None;
         }
         let offset = self.offsets[router as usize * 5 + port as usize];
@@ -29,7 +38,7 @@ impl Plan {
         if domain >= self.sizes.domains {
             return None;
         }
-        let mut longest = 0;
+        let mut longest: u8 = 0;
         for k in 0..self.period {
             if self.slots[k as usize] == domain {
                 longest = longest.max(self.until_next(domain, k));
@@ -65,7 +74,7 @@ impl Plan {
     pub fn neighbour(&self, router: u8, side: u8) -> Option<u8>
         ensures { λ r. ⌜ r ≡ beside-of (now (self .entry)) router side ⌝ }
     {
-        if router >= self.sizes.width * self.sizes.height {
+        if router >= self.routers() {
             return None;
         }
         neighbour(self.sizes, router, side)

@@ -13,7 +13,7 @@ use Rattle.schedule.proofs.check.check_domains.Needs as need
 pub returns-then-share-eq0 : need.returns-then-share-eq0
 returns-then-share-eq0 c =
     let xs = c .args .slots .now in
-    let none : eqb (share xs (c .loop-domain .domain)) 0 ≡ true = eq-eqb _ 0 (sym (c .share .ensures) ∙ c .if-share-eq0 .taken) in
+    let none : eqb (share xs (c .loop-domain .domain)) 0 ≡ true = eq-eqb _ 0 (sym (c .share .ensures .is) ∙ c .if-share-eq0 .taken) in
     sym (ap answered
     (refused-at (λ d. eqb (share xs d) 0) (c .args .sizes .domains) DomainWithoutSlot
     (c .loop-domain .domain) (omega arith) (c .loop-domain .inv) none))
@@ -21,7 +21,7 @@ returns-then-share-eq0 c =
 pub loop-domain-again : need.loop-domain-again
 loop-domain-again c =
     below-more _ _ (c .loop-domain .inv)
-    (ne-eqb (share (c .args .slots .now) (c .loop-domain .domain)) 0 (λ e. c .if-share-eq0 .left (c .share .ensures ∙ e)))
+    (ne-eqb (share (c .args .slots .now) (c .loop-domain .domain)) 0 (λ e. c .if-share-eq0 .left (c .share .ensures .is ∙ e)))
 
 pub returns : need.returns
 returns c =

@@ -2,16 +2,13 @@ use mathlib.Core.Path.{_≡_, sym, ap, _∙_, subst}
 use mathlib.Core.Bool.{true}
 use Prim.Native.Nat.{ℕ, _+_, _*_, _/_, _%_, _<_}
 use native.Mathlib.Omega.{arith}
-use Rattle.std.proofs.shelf.Bits.{mul-le, div-mul-add, mod-mul-add}
+use Rattle.std.proofs.shelf.Bits.{div-mul-add, mod-mul-add}
 use Rattle.schedule.specs.declared.refusal.Refusal.the-variants.{WaveBroken}
 use Rattle.std.specs.declared.result.Result.the-variants.{Err}
 use Rattle.schedule.specs.Timetable.{routers}
 use Rattle.schedule.specs.Verdict.{answered, breaks}
 use Rattle.schedule.proofs.Refuse.{refused-at, refused-none}
 use Rattle.schedule.proofs.check.check_wave.Needs as need
-
-pub mul-routers : need.mul-routers
-mul-routers c = omega (arith, mul-le (c .args .sizes .width) (c .args .sizes .height) 8 8 (omega arith) (omega arith))
 
 pub returns-after-scan : need.returns-after-scan
 returns-after-scan c =

@@ -25,4 +25,6 @@ loop-slot-again c =
     ]
 
 pub returns : need.returns
-returns c = c .loop-slot .inv .0 ∙ ap (λ xs. share xs (c .args .domain)) (take-all (c .loop-slot .slot-index) (c .args .slots .now) (omega arith))
+returns c =
+    let all = take-all (c .loop-slot .slot-index) (c .args .slots .now) (omega arith) in
+    record { is = c .loop-slot .inv .0 ∙ ap (λ xs. share xs (c .args .domain)) all; few = omega arith }

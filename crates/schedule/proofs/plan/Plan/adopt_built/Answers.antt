@@ -1,15 +1,14 @@
 use mathlib.Core.Path.{_≡_, refl, sym, ap, subst, _∙_}
-use Prim.Native.Nat.{_-_}
+use Prim.Native.Nat.{_*_, _-_}
 use native.Mathlib.Omega.{arith}
 use lib.ListN.{length, take}
 use Rattle.std.specs.declared.result.Result.the-variants.{Err}
 use Rattle.std.specs.Orderings.{Decides}
 use Rattle.std.specs.Results.{isOk}
-use Rattle.std.proofs.shelf.Bits.{mul-le}
 use Rattle.std.proofs.shelf.Results.{err-from-errBy}
 use Rattle.schedule.specs.Built.{built}
 use Rattle.schedule.specs.Plans.{timetable-of, replaced}
-use Rattle.schedule.specs.Timetable.{timetable, ports}
+use Rattle.schedule.specs.Timetable.{timetable}
 use Rattle.schedule.specs.Verdict.{answered, size-check, verdict, Keeps}
 use Rattle.schedule.proofs.Outcomes.{failed, left-old, sizes-first, decides-keeps}
 use Rattle.schedule.proofs.Padded.{length-padded, take-padded}
@@ -33,8 +32,6 @@ returns-in-Break-check-sizes c =
 
 pub part-adopt-end : need.part-adopt-end
 part-adopt-end c =
-    let limits = c .in-Continue-check-sizes .ensures tt .kept in
-    let few = mul-le (c .args .sizes .width) (c .args .sizes .height) 8 8 (omega arith) (omega arith) in
     let offsets = built (c .args .sizes) (length (c .args .slots .now)) in
     let count = built-length (c .args .sizes) (length (c .args .slots .now)) in
     let long : length (c .built-offsets-offsets .result) ≡ 320 =
@@ -45,9 +42,10 @@ pub returns : need.returns
 returns c =
     let sizes = c .args .sizes in
     let slots = c .args .slots .now in
-    let offsets : take (ports sizes - 0) (c .built-offsets-offsets .result) ≡ built sizes (length slots) =
-    ap (take (ports sizes - 0)) (c .built-offsets-offsets .ensures)
-    ∙ take-padded 320 (built sizes (length slots)) (ports sizes - 0) (omega (arith, built-length sizes (length slots))) in
+    let used = c .routers .result * 5 - 0 in
+    let offsets : take used (c .built-offsets-offsets .result) ≡ built sizes (length slots) =
+    ap (take used) (c .built-offsets-offsets .ensures)
+    ∙ take-padded 320 (built sizes (length slots)) used (omega (arith, built-length sizes (length slots), c .routers .ensures .is)) in
     record {
       left = c .adopt .ensures .left ∙ ap (λ o. replaced (timetable sizes slots o) (timetable-of (c .args .self .now))) offsets;
       accepted = decides-assigned sizes slots (isOk (c .adopt .result))

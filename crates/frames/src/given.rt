@@ -1,0 +1,75 @@
+ghost use mathlib.Core.Path.{_≡_};
+ghost use Rattle.std.specs.Options.{mapped, okOr};
+ghost use Rattle.schedule.specs.declared.refusal.Refusal.the-variants.{NotAFrame};
+ghost use Rattle.frames.specs.Frames.{One-given, given-of, given-value, plan-of, told};
+use super::choices::ArbiterKind;
+use super::choices::PayloadKind;
+use super::choices::RouteKind;
+use schedule::refusal::Refusal;
+use schedule::sizes::Sizes;
+
+// A plan with its offsets given: the planner's own frame, number 6.
+#[derive(Clone, Copy)]
+pub struct GivenPlan<'a> {
+    pub sizes: Sizes,
+    pub arbiter: ArbiterKind,
+    pub route: RouteKind,
+    pub payload: PayloadKind,
+    pub slots: &'a [u8],
+    pub offsets: &'a [u8],
+}
+
+pub fn decode_given<'a>(bytes: &'a [u8]) -> Result<GivenPlan<'a>, Refusal>
+    ensures plan { λ r. ⌜ told given-value r ≡ okOr (given-of (now (bytes .entry))) NotAFrame ⌝ }
+    ensures one { λ _. ⌜ One-given ⌝ }
+{
+    given_plan(bytes).ok_or(Refusal::NotAFrame)
+}
+
+fn given_plan<'a>(bytes: &'a [u8]) -> Option<GivenPlan<'a>>
+    ensures { λ r. ⌜ mapped given-value r ≡ given-of (now (bytes .entry)) ⌝ }
+{
+    match bytes {
+        [6, fields @ ..] => plan_fields(fields),
+        _ => None,
+    }
+}
+
+// The plan that the fields of a frame begin with; what follows it is taken for offsets.
+pub(crate) fn plan_fields<'a>(fields: &'a [u8]) -> Option<GivenPlan<'a>>
+    ensures { λ r. ⌜ mapped given-value r ≡ plan-of (now (fields .entry)) ⌝ }
+{
+    let [
+        width,
+        height,
+        domains,
+        depth,
+        hop,
+        arbiter,
+        route,
+        payload,
+        period,
+        rest @ ..,
+    ] = fields
+    else {
+        return None;
+    };
+    let period = *period as usize;
+    if rest.len() < period {
+        return None;
+    }
+    Some(GivenPlan {
+        sizes: Sizes {
+            width: *width,
+            height: *height,
+            domains: *domains,
+            depth: *depth,
+            hop: *hop,
+        },
+        arbiter: ArbiterKind::from_number(*arbiter)?,
+        route: RouteKind::from_number(*route)?,
+        payload: PayloadKind::from_number(*payload)?,
+        slots: &rest[0..period],
+        offsets: &rest[period..],
+    })
+}

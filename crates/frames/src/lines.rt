@@ -1,0 +1,66 @@
+ghost use mathlib.Core.Path.{_≡_};
+ghost use Prim.Native.Nat.{ℕ, _<_, _≤_};
+ghost use mathlib.Core.Bool.{true};
+ghost use mathlib.Core.List.{List};
+ghost use lib.ListN.{length};
+ghost use Rattle.std.specs.Options.{isSome, mapped};
+ghost use Rattle.frames.specs.Lines.{feed-place, after-line, first-line, unread, line-of, Whole, Walked};
+
+pub const LINE_FEED: u8 = 10;
+
+// A line of the input without its line feed.
+#[derive(Clone, Copy)]
+pub enum Line<'a> {
+    Ended(&'a [u8]),
+    // bytes after the last line feed
+    Unended(&'a [u8]),
+}
+
+// Hands out the lines of a block of bytes, first to last.
+#[derive(Clone, Copy)]
+pub struct Lines<'a> {
+    rest: &'a [u8],
+}
+
+// Where the first line feed stands; the length of the block where there is none.
+fn feed_place(block: &[u8]) -> usize
+    ensures place { λ r. ⌜ r ≡ feed-place (now (block .entry)) ⌝ }
+    ensures within { λ r. ⌜ r ≤ length (now (block .entry)) ⌝ }
+{
+    for (place, byte) in block.iter().enumerate() {
+        if *byte == LINE_FEED {
+            return place;
+        }
+    }
+    block.len()
+}
+
+impl<'a> Lines<'a> {
+    pub fn new(block: &'a [u8]) -> Lines<'a>
+        ensures unread { λ r. ⌜ unread r ≡ now (block .entry) ⌝ }
+        ensures whole { λ _. ⌜ Whole (now (block .entry)) ⌝ }
+        ensures walked { λ _. ⌜ ((left : List ℕ) → Walked left) ⌝ }
+    {
+        Lines { rest: block }
+    }
+
+    pub fn next_line(&mut self) -> Option<Line<'a>>
+        ensures line { λ r. ⌜ mapped line-of r ≡ first-line (unread (now (self .entry))) ⌝ }
+        ensures left { λ _. ⌜ unread (now (self .exit)) ≡ after-line (unread (now (self .entry))) ⌝ }
+        ensures shorter { λ r. ⌜ (isSome r ≡ true → length (unread (now (self .exit))) < length (unread (now (self .entry)))) ⌝ }
+    {
+        let block = self.rest;
+        let place = feed_place(block);
+        let text = &block[0..place];
+        if place < block.len() {
+            self.rest = &block[place + 1..];
+            return Some(Line::Ended(text));
+        }
+        self.rest = &block[place..];
+        if text.is_empty() {
+            None
+        } else {
+            Some(Line::Unended(text))
+        }
+    }
+}

@@ -1,0 +1,152 @@
+// What is printed for one line.
+use super::words::arbiter_word;
+use super::words::kind_word;
+use super::words::largest_size;
+use super::words::offsets_word;
+use super::words::payload_word;
+use super::words::route_word;
+use super::words::side_word;
+use super::words::size_word;
+use planner::judgement::Judgement;
+use planner::judgement::Offsets;
+use planner::limits::Excess;
+use planner::limits::meshrun_excess;
+use schedule::plan::Plan;
+use schedule::refusal::Refusal;
+use std::io;
+
+pub fn report_line(
+    rt: &LibcRuntime,
+    number: u64,
+    judgement: Judgement,
+    plan: &Plan,
+) -> io::Result<()> {
+    match judgement {
+        Judgement::Accepted {
+            arbiter,
+            route,
+            payload,
+            offsets,
+        } => {
+            println!(rt, "line {number}: accepted")?;
+            report_sizes(rt, plan)?;
+            let arbiter = arbiter_word(arbiter);
+            let route = route_word(route);
+            let payload = payload_word(payload);
+            println!(rt, "  arbiter {arbiter}, route {route}, payload {payload}")?;
+            report_meshrun(rt, plan, offsets)?;
+            report_domains(rt, plan)?;
+            report_routers(rt, plan)
+        }
+        Judgement::Refused { refusal } => report_refusal(rt, number, refusal),
+        Judgement::AnotherKind { number: kind } => {
+            let word = kind_word(kind);
+            println!(
+                rt,
+                "line {number}: refused, no plan: frame {kind:02x} is {word}"
+            )
+        }
+    }
+}
+
+fn report_refusal(rt: &LibcRuntime, number: u64, refusal: Refusal) -> io::Result<()> {
+    let code = refusal.number();
+    print!(rt, "line {number}: refused {code}: ")?;
+    match refusal {
+        Refusal::NotAFrame => println!(rt, "the line is not a frame"),
+        Refusal::SizeOutOfLimits { size } => {
+            let word = size_word(size);
+            let top = largest_size(size);
+            println!(rt, "the {word} is not from 1 to {top}")
+        }
+        Refusal::OffsetCount => println!(rt, "there are not five offsets for each router"),
+        Refusal::UnknownDomain { slot } => println!(
+            rt,
+            "slot {slot} names a domain that the plan does not have"
+        ),
+        Refusal::DomainWithoutSlot { domain } => println!(rt, "domain {domain} has no slot"),
+        Refusal::OffsetTooLarge { router, port } => {
+            let side = side_word(port).trim_end();
+            println!(
+                rt,
+                "the offset of router {router}, port {side}, is not below the number of slots"
+            )
+        }
+        Refusal::WaveBroken { router, side } => {
+            let side = side_word(side).trim_end();
+            println!(
+                rt,
+                "the wave breaks from router {router} to its neighbour {side}"
+            )
+        }
+    }
+}
+
+fn report_sizes(rt: &LibcRuntime, plan: &Plan) -> io::Result<()> {
+    let sizes = plan.sizes;
+    let width = sizes.width;
+    let height = sizes.height;
+    let domains = sizes.domains;
+    let depth = sizes.depth;
+    let hop = sizes.hop;
+    let period = plan.period;
+    println!(
+        rt,
+        "  columns {width}, rows {height}, domains {domains}, queue places {depth}, hop {hop}, slots {period}"
+    )
+}
+
+// Whether the smaller limits of the program `meshrun` allow the plan too.
+fn report_meshrun(rt: &LibcRuntime, plan: &Plan, offsets: Offsets) -> io::Result<()> {
+    let word = offsets_word(offsets);
+    print!(rt, "  offsets {word}; ")?;
+    match (offsets, meshrun_excess(plan)) {
+        (Offsets::Given, _) => println!(rt, "meshrun refuses it by 1: it reads no offsets"),
+        (Offsets::Built, Some(Excess::Routers)) => println!(
+            rt,
+            "meshrun refuses it by 2: it allows 16 routers"
+        ),
+        (Offsets::Built, Some(Excess::Domains)) => println!(
+            rt,
+            "meshrun refuses it by 2: it allows 4 domains"
+        ),
+        (Offsets::Built, None) => println!(rt, "meshrun allows it"),
+    }
+}
+
+fn report_domains(rt: &LibcRuntime, plan: &Plan) -> io::Result<()> {
+    let period = plan.period;
+    for domain in 0..plan.sizes.domains {
+        if let (Some(share), Some(gap)) = (plan.share(domain), plan.gap(domain)) {
+            println!(
+                rt,
+                "  domain {domain}: slots {share} of {period}, longest gap {gap}"
+            )?;
+        }
+    }
+    Ok(())
+}
+
+fn report_routers(rt: &LibcRuntime, plan: &Plan) -> io::Result<()> {
+    for router in 0..plan.routers() {
+        let column = router % plan.sizes.width;
+        let row = router / plan.sizes.width;
+        println!(rt, "  router {router}, column {column}, row {row}")?;
+        for port in 0..5 {
+            report_port(rt, plan, router, port)?;
+        }
+    }
+    Ok(())
+}
+
+// The owner of a port in each cycle of one period, a digit a cycle.
+fn report_port(rt: &LibcRuntime, plan: &Plan, router: u8, port: u8) -> io::Result<()> {
+    let side = side_word(port);
+    print!(rt, "    {side} ")?;
+    for cycle in 0..u32::from(plan.period) {
+        if let Some(owner) = plan.owner(router, port, cycle) {
+            print!(rt, "{owner}")?;
+        }
+    }
+    println!(rt, "")
+}

@@ -9,9 +9,10 @@ use lib.ListN.{length, getD, take, drop}
 use Rattle.std.specs.Options.{mapped}
 use Rattle.std.specs.declared.option.Option.{Option}
 use Rattle.std.specs.declared.option.Option.the-variants.{Some, None}
-use Rattle.std.proofs.shelf.Lists.{append-assoc, take-more, length-append}
+use Rattle.std.proofs.shelf.Lists.{append-assoc, append-nil, take-more, length-append}
 use Rattle.std.proofs.shelf.Tests.{eqb-true, eqb-false}
-use Rattle.frames.specs.Hex.{bytes-of, digit, digit-value, hex-of, line-of, paired}
+use Rattle.frames.specs.Lines.{line-feed}
+use Rattle.frames.specs.Hex.{bytes-of, digit, digit-value, hex-of, hex-line, paired}
 
 pub none-read : (o : Option (List ℕ)) → mapped (λ more. [] ++ more) o ≡ o
 none-read None = refl
@@ -86,5 +87,13 @@ length-hex : (bytes : List ℕ) → length (hex-of bytes) ≡ length bytes * 2
 length-hex [] = refl
 length-hex (b ∷ bs) = omega (arith, length-hex bs)
 
-pub length-line : (bytes : List ℕ) → length (line-of bytes) ≡ length bytes * 2 + 1
+pub length-line : (bytes : List ℕ) → length (hex-line bytes) ≡ length bytes * 2 + 1
 length-line bytes = length-append (hex-of bytes) _ ∙ ap (λ (n : ℕ). n + 1) (length-hex bytes)
+
+pub line-written :
+    (start digits after bytes : List ℕ) → digits ≡ start ++ hex-of bytes → after ≡ digits ++ line-feed ∷ []
+    → after ≡ start ++ hex-line bytes
+line-written start digits after bytes d e = rw (e, d) (append-assoc start (hex-of bytes) (line-feed ∷ []))
+
+pub unwritten : (start after : List ℕ) → after ≡ start → after ≡ start ++ []
+unwritten start after e = rw append-nil e

@@ -5,7 +5,6 @@ use mathlib.Core.List.{List, [], _∷_, _++_}
 use Prim.Native.Nat.{ℕ, _+_}
 use lib.Dec.{eqb, leb}
 use lib.ListN.{length, getD, take, drop}
-use Rattle.std.specs.Options.{mapped}
 use Rattle.std.specs.declared.option.Option.{Option}
 use Rattle.std.specs.declared.option.Option.the-variants.{Some, None}
 use Rattle.std.specs.declared.result.Result.{Result}
@@ -32,17 +31,19 @@ pub record GivenValue : Type 0 where
   pub plan : PlanValue
   pub offsets : List ℕ
 
+-- what a frame tells a program to do
 pub data FrameValue : Type 0 where
   plan : PlanValue → FrameValue
-  inject : ℕ → ℕ → ℕ → List ℕ → FrameValue
-  steps : ℕ → FrameValue
+  inject : (router domain destination : ℕ) (payload : List ℕ) → FrameValue
+  steps : (count : ℕ) → FrameValue
 
+-- the bytes of a plan behind the frame's number: sizes, choices, the number of slots and the slots
 abbrev pub plan-bytes : PlanValue → List ℕ
 plan-bytes p =
     p .sizes .width ∷ p .sizes .height ∷ p .sizes .domains ∷ p .sizes .depth ∷ p .sizes .hop
     ∷ arbiter-number (p .arbiter) ∷ route-number (p .route) ∷ payload-number (p .payload) ∷ length (p .slots) ∷ p .slots
 
--- a frame's number, and its values
+-- a frame's number and its values
 abbrev pub frame-bytes : FrameValue → List ℕ
 frame-bytes (plan p) = 1 ∷ plan-bytes p
 frame-bytes (inject router domain destination payload) = 2 ∷ router ∷ domain ∷ destination ∷ payload
@@ -68,6 +69,7 @@ abbrev pub told : {A B : Type 0} → (A → B) → Result A Refusal → Result B
 told value (Ok answer) = Ok (value answer)
 told value (Err refusal) = Err refusal
 
+-- a plan by what its bytes name, where they name an arbiter, a route rule and a payload kind
 abbrev pub chosen : Sizes → Option ArbiterKind → Option RouteKind → Option PayloadKind → List ℕ → List ℕ → Option GivenValue
 chosen sizes None route payload slots offsets = None
 chosen sizes (Some arbiter) None payload slots offsets = None
@@ -75,7 +77,7 @@ chosen sizes (Some arbiter) (Some route) None slots offsets = None
 chosen sizes (Some arbiter) (Some route) (Some payload) slots offsets =
     Some (record { plan = record { sizes = sizes; arbiter = arbiter; route = route; payload = payload; slots = slots }; offsets = offsets })
 
--- nine bytes, the last of which counts the slots, the slots, and then offsets
+-- the plan that begins the fields, if nine bytes and as many slots as the ninth counts are there; what follows are offsets
 abbrev pub plan-of : List ℕ → Option GivenValue
 plan-of fields =
     cond (leb (9 + getD fields 8 0) (length fields))
@@ -90,13 +92,16 @@ abbrev pub bare : Option GivenValue → Option FrameValue
 bare None = None
 bare (Some given) = cond (eqb (length (given .offsets)) 0) (Some (plan (given .plan))) None
 
+-- seven bytes: router, domain, destination and the payload
 abbrev pub injection-of : List ℕ → Option FrameValue
 injection-of fields =
     cond (eqb (length fields) 7) (Some (inject (getD fields 0 0) (getD fields 1 0) (getD fields 2 0) (drop 3 fields))) None
 
+-- one byte, the number of steps
 abbrev pub steps-of : List ℕ → Option FrameValue
 steps-of fields = cond (eqb (length fields) 1) (Some (steps (getD fields 0 0))) None
 
+-- the frame of a number with these fields
 abbrev pub frame-of : ℕ → List ℕ → Option FrameValue
 frame-of kind fields =
     cond (eqb kind 1) (bare (plan-of fields))

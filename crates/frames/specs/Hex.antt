@@ -23,8 +23,8 @@ hex-of [] = []
 hex-of (byte ∷ bytes) = digit (byte / 16) ∷ digit (byte % 16) ∷ hex-of bytes
 
 -- the line that is written for the bytes
-abbrev pub line-of : List ℕ → List ℕ
-line-of bytes = hex-of bytes ++ line-feed ∷ []
+abbrev pub hex-line : List ℕ → List ℕ
+hex-line bytes = hex-of bytes ++ line-feed ∷ []
 
 -- a byte by its two digits, before the bytes that follow
 abbrev pub paired : Option ℕ → Option ℕ → Option (List ℕ) → Option (List ℕ)

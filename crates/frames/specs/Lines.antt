@@ -1,6 +1,6 @@
 -- The lines of a block of bytes.
 use mathlib.Core.Path.{_≡_}
-use mathlib.Core.Bool.{Bool, cond}
+use mathlib.Core.Bool.{cond}
 use mathlib.Core.List.{List, [], _∷_, _++_}
 use Prim.Native.Nat.{ℕ, suc, _<_}
 use lib.Dec.{eqb}
@@ -31,15 +31,15 @@ pub data LineText : Type 0 where
   ended : List ℕ → LineText
   unended : List ℕ → LineText
 
-abbrev pub line-of : Line → LineText
-line-of (Ended text) = ended (text .now)
-line-of (Unended text) = unended (text .now)
+abbrev pub line-value : Line → LineText
+line-value (Ended text) = ended (text .now)
+line-value (Unended text) = unended (text .now)
 
 -- what a reader has yet to hand out
 abbrev pub unread : Lines → List ℕ
 unread lines = lines .rest .now
 
--- a byte that is no line feed, put before the lines that follow it
+-- the lines of a byte that is no line feed and of what follows it, by the lines of what follows
 abbrev pub begun : ℕ → List LineText → List LineText
 begun b [] = unended (b ∷ []) ∷ []
 begun b (ended text ∷ lines) = ended (b ∷ text) ∷ lines

@@ -34,6 +34,7 @@ pub enum Frame<'a> {
     },
 }
 
+// The frame that has these bytes.
 pub fn decode<'a>(bytes: &'a [u8]) -> Result<Frame<'a>, Refusal>
     ensures frame { λ r. ⌜ told frame-value r ≡ okOr (decoded (now (bytes .entry))) NotAFrame ⌝ }
     ensures one { λ _. ⌜ One-frame ⌝ }

@@ -19,6 +19,7 @@ pub struct GivenPlan<'a> {
     pub offsets: &'a [u8],
 }
 
+// The plan and the offsets that have these bytes.
 pub fn decode_given<'a>(bytes: &'a [u8]) -> Result<GivenPlan<'a>, Refusal>
     ensures plan { λ r. ⌜ told given-value r ≡ okOr (given-of (now (bytes .entry))) NotAFrame ⌝ }
     ensures one { λ _. ⌜ One-given ⌝ }

@@ -6,10 +6,10 @@ ghost use lib.ListN.{length};
 ghost use Rattle.std.specs.Numbers.{Checked};
 ghost use Rattle.std.specs.Of.Vec.{vec-cap, vec-items, vec-len};
 ghost use Rattle.std.specs.Options.{Cases as BySome, mapped};
-ghost use Rattle.std.specs.Results.{Cases, isOk};
+ghost use Rattle.std.specs.Results.{isOk};
 ghost use Rattle.std.specs.Vec.{made};
-ghost use Rattle.std.specs.declared.option.Option.the-variants.{None, Some};
-ghost use Rattle.frames.specs.Hex.{One-spelling, bytes-of, digit, digit-value, line-of, paired};
+ghost use Rattle.std.specs.declared.option.Option.the-variants.{Some};
+ghost use Rattle.frames.specs.Hex.{One-spelling, bytes-of, digit, digit-value, hex-line, paired};
 use super::lines::LINE_FEED;
 use std::alloc::AllocError;
 use std::alloc::Global;
@@ -70,8 +70,8 @@ fn line_length(bytes: &[u8]) -> Option<usize>
 
 // Appends the line that spells the bytes; for want of memory nothing is appended.
 pub fn append_line(out: &mut Vec<u8>, bytes: &[u8]) -> Result<(), AllocError>
-    ensures line { λ r. ⌜ vec-items (now (out .exit)) ≡ vec-items (now (out .entry)) ++ cond (isOk r) (line-of (now (bytes .entry))) [] ⌝ }
-    ensures succeeds { λ r. ⌜ (vec-len (now (out .entry)) + length (line-of (now (bytes .entry))) ≤ vec-cap (now (out .entry)) → isOk r ≡ true) ⌝ }
+    ensures line { λ r. ⌜ vec-items (now (out .exit)) ≡ vec-items (now (out .entry)) ++ cond (isOk r) (hex-line (now (bytes .entry))) [] ⌝ }
+    ensures succeeds { λ r. ⌜ (vec-len (now (out .entry)) + length (hex-line (now (bytes .entry))) ≤ vec-cap (now (out .entry)) → isOk r ≡ true) ⌝ }
     ensures spelling { λ _. ⌜ One-spelling ⌝ }
 {
     let Some(length) = line_length(bytes) else {

@@ -6,3 +6,5 @@ pub mod hex;
 pub mod lines;
 pub mod output;
 pub mod payload;
+#[cfg(test)]
+mod tests;

@@ -4,7 +4,7 @@ ghost use mathlib.Core.Bool.{true};
 ghost use mathlib.Core.List.{List};
 ghost use lib.ListN.{length};
 ghost use Rattle.std.specs.Options.{isSome, mapped};
-ghost use Rattle.frames.specs.Lines.{feed-place, after-line, first-line, unread, line-of, Whole, Walked};
+ghost use Rattle.frames.specs.Lines.{feed-place, after-line, first-line, unread, line-value, Whole, Walked};
 
 pub const LINE_FEED: u8 = 10;
 
@@ -17,7 +17,7 @@ pub enum Line<'a> {
 }
 
 // Hands out the lines of a block of bytes, first to last.
-#[derive(Clone, Copy)]
+#[derive(Drop)]
 pub struct Lines<'a> {
     rest: &'a [u8],
 }
@@ -44,8 +44,9 @@ impl<'a> Lines<'a> {
         Lines { rest: block }
     }
 
+    // The next line; none where no byte is left.
     pub fn next_line(&mut self) -> Option<Line<'a>>
-        ensures line { λ r. ⌜ mapped line-of r ≡ first-line (unread (now (self .entry))) ⌝ }
+        ensures line { λ r. ⌜ mapped line-value r ≡ first-line (unread (now (self .entry))) ⌝ }
         ensures left { λ _. ⌜ unread (now (self .exit)) ≡ after-line (unread (now (self .entry))) ⌝ }
         ensures shorter { λ r. ⌜ (isSome r ≡ true → length (unread (now (self .exit))) < length (unread (now (self .entry)))) ⌝ }
     {

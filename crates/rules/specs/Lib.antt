@@ -1,0 +1,2 @@
+pub mod Arbiters
+pub mod Routes

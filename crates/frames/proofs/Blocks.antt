@@ -14,22 +14,7 @@ use Rattle.std.proofs.shelf.Lists.{drop-all, take-rest}
 use Rattle.std.proofs.shelf.Tests.{cases-lt, cases-eq, cond-false, eq-eqb, ne-eqb}
 use Rattle.std.specs.declared.option.Option.{Option}
 use Rattle.std.specs.declared.option.Option.the-variants.{Some, None}
-use Rattle.frames.specs.Lines.{
-  LineText,
-  ended,
-  unended,
-  line-feed,
-  feed-place,
-  after-line,
-  begun,
-  all-lines,
-  first,
-  first-line,
-  line-bytes,
-  Orderly,
-  Whole,
-  Walked,
-}
+use Rattle.frames.specs.Lines.{LineText, ended, unended, line-feed, feed-place, after-line, begun, all-lines, first, first-line, line-bytes, Orderly, Whole, Walked}
 
 ended-at :
     (x : ℕ) (xs : List ℕ) (feed : Bool)

@@ -1,23 +1,21 @@
 -- The bytes of a frame, as the code takes them apart.
 use mathlib.Core.Path.{_≡_, refl, sym, _∙_, ap}
-use mathlib.Core.Bool.{cond, true}
-use mathlib.Core.List.{List, [], _∷_, _++_, map}
+use mathlib.Core.List.{List, _∷_, _++_, map}
 use Prim.Native.Nat.{ℕ, zero, suc, _+_, _-_, _≤_, _<_}
-use native.Mathlib.Nat.{add-zero, sub-zero}
+use native.Mathlib.Nat.{add-zero}
 use native.Mathlib.Omega.{arith}
-use lib.Dec.{leb}
 use lib.ListN.{length, getD, take, drop, length-drop}
 use Rattle.std.specs.Iters.{counting}
 use Rattle.std.specs.Options.{mapped, okOr}
 use Rattle.std.specs.declared.option.Option.{Option}
 use Rattle.std.specs.declared.option.Option.the-variants.{Some, None}
 use Rattle.std.specs.declared.result.Result.{Result}
-use Rattle.std.proofs.shelf.Lists.{append-nil, drop-all, drop-more, take-rest}
-use Rattle.std.proofs.shelf.Tests.{eq-eqb, le-leb}
+use Rattle.std.proofs.shelf.Lists.{append-nil, drop-all, drop-more}
+use Rattle.std.proofs.shelf.Tests.{le-leb}
 use Rattle.schedule.specs.declared.refusal.Refusal.{Refusal}
 use Rattle.schedule.specs.declared.sizes.Sizes.{Sizes}
 use Rattle.frames.specs.Choices.{arbiter-of, route-of, payload-of}
-use Rattle.frames.specs.Frames.{GivenValue, inject, plan-of, injection-of, frame-of, decoded, given-of, told}
+use Rattle.frames.specs.Frames.{plan-of, told}
 use Rattle.frames.specs.declared.choices.ArbiterKind.{ArbiterKind}
 use Rattle.frames.specs.declared.choices.RouteKind.{RouteKind}
 use Rattle.frames.specs.declared.choices.PayloadKind.{PayloadKind}
@@ -39,42 +37,23 @@ listed-all xs i n h =
     let past : length xs ≤ i + n = omega arith in
     sym (append-nil places) ∙ (ap (λ (ys : List ℕ). places ++ ys) (sym (drop-all (i + n) xs past)) ∙ listed xs i n (omega arith))
 
-pub at-kind :
-    (bytes fields : List ℕ) (kind : ℕ) → 1 ≤ length bytes → fields ≡ drop 1 bytes → getD bytes 0 0 ≡ kind
-    → frame-of kind fields ≡ decoded bytes
-at-kind [] fields kind h e k = absurd (omega arith)
-at-kind (b ∷ bs) fields kind h e k = rw (e, ← k)
-
-pub at-given :
-    (bytes fields : List ℕ) → 1 ≤ length bytes → fields ≡ drop 1 bytes → getD bytes 0 0 ≡ 6 → plan-of fields ≡ given-of bytes
-at-given [] fields h e k = absurd (omega arith)
-at-given (b ∷ bs) fields h e k = rw (e, k)
-
-pub injection-made :
-    (fields : List ℕ) → length fields ≡ 7
-    → Some (inject (getD fields 0 0) (getD fields 1 0) (getD fields 2 0)
-    (getD fields 3 0 ∷ getD fields 4 0 ∷ getD fields 5 0 ∷ getD fields 6 0 ∷ []))
-    ≡ injection-of fields
-injection-made fields h =
-    rw (eq-eqb (length fields) 7 h, ← listed-all fields 3 4 h)
-
 abbrev pub sizes-of : List ℕ → Sizes
 sizes-of fields =
     record { width = getD fields 0 0; height = getD fields 1 0; domains = getD fields 2 0; depth = getD fields 3 0; hop = getD fields 4 0 }
 
 pub plan-made :
-    (fields rest : List ℕ) (arbiter : ArbiterKind) (route : RouteKind) (payload : PayloadKind)
-    → rest ≡ drop 9 fields → 9 ≤ length fields → getD fields 8 0 ≤ length rest
+    (fields rest slots offsets : List ℕ) (arbiter : ArbiterKind) (route : RouteKind) (payload : PayloadKind)
+    → rest ≡ drop 9 fields → 9 ≤ length fields
+    → (getD fields 8 0 ≤ length rest) × (slots ≡ take (getD fields 8 0) rest) × (offsets ≡ drop (getD fields 8 0) rest)
     → Some arbiter ≡ arbiter-of (getD fields 5 0) → Some route ≡ route-of (getD fields 6 0) → Some payload ≡ payload-of (getD fields 7 0)
     → Some (record {
-      plan = record
-          { sizes = sizes-of fields; arbiter = arbiter; route = route; payload = payload; slots = take (getD fields 8 0 - 0) rest };
-      offsets = take (length rest - getD fields 8 0) (drop (getD fields 8 0) rest);
+      plan = record { sizes = sizes-of fields; arbiter = arbiter; route = route; payload = payload; slots = slots };
+      offsets = offsets;
     })
     ≡ plan-of fields
-plan-made fields rest arbiter route payload e long enough ea er ep =
+plan-made fields rest slots offsets arbiter route payload e long split ea er ep =
     let room : 9 + getD fields 8 0 ≤ length fields = omega (arith, ap length e, length-drop 9 fields) in
-    rw (le-leb (9 + getD fields 8 0) (length fields) room, ← ea, ← er, ← ep, sub-zero, take-rest rest (getD fields 8 0), e)
+    rw (le-leb (9 + getD fields 8 0) (length fields) room, ← ea, ← er, ← ep, split .1, split .2, e)
 
 told-okOr : {A B : Type 0} (value : A → B) (o : Option A) (e : Refusal) → told value (okOr o e) ≡ okOr (mapped value o) e
 told-okOr value None e = refl

@@ -13,28 +13,7 @@ use Rattle.std.proofs.shelf.Lists.{append-nil, drop-at, length-take-le, take-ap
 use Rattle.std.proofs.shelf.Tests.{eq-eqb, eqb-true, le-leb, leb-true}
 use Rattle.schedule.specs.declared.sizes.Sizes.{Sizes}
 use Rattle.frames.specs.Choices.{arbiter-number, arbiter-of, route-number, route-of, payload-number, payload-of}
-use Rattle.frames.specs.Frames.{
-  PlanValue,
-  GivenValue,
-  FrameValue,
-  plan,
-  inject,
-  steps,
-  plan-bytes,
-  frame-bytes,
-  given-bytes,
-  chosen,
-  plan-of,
-  bare,
-  injection-of,
-  steps-of,
-  frame-of,
-  decoded,
-  given-of,
-  Sound,
-  One-frame,
-  One-given,
-}
+use Rattle.frames.specs.Frames.{PlanValue, GivenValue, FrameValue, plan, inject, steps, plan-bytes, frame-bytes, given-bytes, chosen, plan-of, bare, injection-of, steps-of, decoded, given-of, Sound, One-frame, One-given}
 use Rattle.frames.specs.declared.choices.ArbiterKind.{ArbiterKind}
 use Rattle.frames.specs.declared.choices.ArbiterKind.the-variants.{Fixed, Rotating, OrderList}
 use Rattle.frames.specs.declared.choices.RouteKind.{RouteKind}
@@ -86,6 +65,7 @@ frame-back (plan p) h = ap (λ (bytes : List ℕ). bare (plan-of bytes)) (sym (a
 frame-back (inject router domain destination payload) h =
     let seven : suc (suc (suc (length payload))) ≡ 7 = omega arith in
     rw (eq-eqb (suc (suc (suc (length payload)))) 7 seven)
+    (ap (λ (p : List ℕ). Some (inject router domain destination p)) (listed-all payload 0 4 h))
 frame-back (steps count) h = refl
 
 -- from bytes to a frame and back
@@ -156,9 +136,9 @@ injection-right : (fields : List ℕ) (f : FrameValue) → injection-of fields �
 injection-right fields f h =
     let k = kept (eqb (length fields) 7) _ f h in
     let seven : length fields ≡ 7 = eqb-true (length fields) 7 (k .0) in
-    let this : inject (getD fields 0 0) (getD fields 1 0) (getD fields 2 0) (drop 3 fields) ≡ f = (let i = k .1 in cc) in
-    subst (With 2 fields) this
-    (rw length-drop (omega arith), ap (λ (bytes : List ℕ). 2 ∷ bytes) (listed fields 0 3 (omega arith)))
+    let four = getD fields 3 0 ∷ getD fields 4 0 ∷ getD fields 5 0 ∷ getD fields 6 0 ∷ [] in
+    let this : inject (getD fields 0 0) (getD fields 1 0) (getD fields 2 0) four ≡ f = (let i = k .1 in cc) in
+    subst (With 2 fields) this (refl, ap (λ (bytes : List ℕ). 2 ∷ bytes) (listed-all fields 0 7 seven))
 
 steps-right : (fields : List ℕ) (f : FrameValue) → steps-of fields ≡ Some f → With 3 fields f
 steps-right fields f h =

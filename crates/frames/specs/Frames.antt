@@ -95,7 +95,9 @@ bare (Some given) = cond (eqb (length (given .offsets)) 0) (Some (plan (given .p
 -- seven bytes: router, domain, destination and the payload
 abbrev pub injection-of : List ℕ → Option FrameValue
 injection-of fields =
-    cond (eqb (length fields) 7) (Some (inject (getD fields 0 0) (getD fields 1 0) (getD fields 2 0) (drop 3 fields))) None
+    cond (eqb (length fields) 7)
+    (Some (inject (getD fields 0 0) (getD fields 1 0) (getD fields 2 0) (getD fields 3 0 ∷ getD fields 4 0 ∷ getD fields 5 0 ∷ getD fields 6 0 ∷ [])))
+    None
 
 -- one byte, the number of steps
 abbrev pub steps-of : List ℕ → Option FrameValue

@@ -1,5 +1,7 @@
 ghost use mathlib.Core.Path.{_≡_};
-ghost use Rattle.std.specs.Options.{mapped, okOr};
+ghost use Prim.Native.Nat.{_<_, _≤_};
+ghost use lib.ListN.{drop, length, take};
+ghost use Rattle.std.specs.Options.{Cases as BySome, mapped, okOr};
 ghost use Rattle.schedule.specs.declared.refusal.Refusal.the-variants.{NotAFrame};
 ghost use Rattle.frames.specs.Frames.{One-given, given-of, given-value, plan-of, told};
 use super::choices::ArbiterKind;
@@ -30,8 +32,9 @@ pub fn decode_given<'a>(bytes: &'a [u8]) -> Result<GivenPlan<'a>, Refusal>
 fn given_plan<'a>(bytes: &'a [u8]) -> Option<GivenPlan<'a>>
     ensures { λ r. ⌜ mapped given-value r ≡ given-of (now (bytes .entry)) ⌝ }
 {
-    match bytes {
-        [6, fields @ ..] => plan_fields(fields),
+    let (kind, fields) = bytes.split_first()?;
+    match *kind {
+        6 => plan_fields(fields),
         _ => None,
     }
 }
@@ -55,10 +58,7 @@ pub(crate) fn plan_fields<'a>(fields: &'a [u8]) -> Option<GivenPlan<'a>>
     else {
         return None;
     };
-    let period = *period as usize;
-    if rest.len() < period {
-        return None;
-    }
+    let (slots, offsets) = split_slots(*period, rest)?;
     Some(GivenPlan {
         sizes: Sizes {
             width: *width,
@@ -70,7 +70,18 @@ pub(crate) fn plan_fields<'a>(fields: &'a [u8]) -> Option<GivenPlan<'a>>
         arbiter: ArbiterKind::from_number(*arbiter)?,
         route: RouteKind::from_number(*route)?,
         payload: PayloadKind::from_number(*payload)?,
-        slots: &rest[0..period],
-        offsets: &rest[period..],
+        slots,
+        offsets,
     })
+}
+
+// As many slots as the period says, and the bytes behind them.
+fn split_slots<'a>(period: u8, bytes: &'a [u8]) -> Option<(&'a [u8], &'a [u8])>
+    ensures { λ r. ⌜ BySome r (length (now (bytes .entry)) < period) (λ p. (period ≤ length (now (bytes .entry))) × (now (p .0) ≡ take period (now (bytes .entry))) × (now (p .1) ≡ drop period (now (bytes .entry)))) ⌝ }
+{
+    let period = period as usize;
+    if bytes.len() < period {
+        return None;
+    }
+    Some(bytes.split_at(period))
 }

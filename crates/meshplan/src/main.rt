@@ -7,10 +7,14 @@ use planner::judgement::Judgement;
 use planner::judgement::judge;
 use report::report_line;
 use schedule::plan::Plan;
-use std::io;
+use std::error::AnyError;
 use std::io::Read;
 
-fn main(rt: LibcRuntime) -> io::Result<()> {
+fn main(rt: LibcRuntime) -> Result<(), AnyError> {
+    rt.report(run(&rt))
+}
+
+fn run(rt: &LibcRuntime) -> Result<(), AnyError> {
     let mut input = Vec::new(rt.alloc());
     rt.stdin().read_to_end(&mut input)?;
     let mut lines = Lines::new(input.as_slice());
@@ -25,7 +29,8 @@ fn main(rt: LibcRuntime) -> io::Result<()> {
             Judgement::Accepted { .. } => accepted = accepted.saturating_add(1),
             _ => refused = refused.saturating_add(1),
         }
-        report_line(&rt, number, judgement, &plan)?;
+        report_line(rt, number, judgement, &plan)?;
     }
-    println!(rt, "{accepted} accepted, {refused} refused")
+    println!(rt, "{accepted} accepted, {refused} refused")?;
+    Ok(())
 }

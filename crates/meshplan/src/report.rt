@@ -1,7 +1,6 @@
 // What is printed for one line.
 use super::words::arbiter_word;
 use super::words::kind_word;
-use super::words::largest_size;
 use super::words::offsets_word;
 use super::words::payload_word;
 use super::words::route_word;
@@ -56,7 +55,7 @@ fn report_refusal(rt: &LibcRuntime, number: u64, refusal: Refusal) -> io::Result
         Refusal::NotAFrame => println!(rt, "the line is not a frame"),
         Refusal::SizeOutOfLimits { size } => {
             let word = size_word(size);
-            let top = largest_size(size);
+            let top = size.largest();
             println!(rt, "the {word} is not from 1 to {top}")
         }
         Refusal::OffsetCount => println!(rt, "there are not five offsets for each router"),
@@ -129,9 +128,11 @@ fn report_domains(rt: &LibcRuntime, plan: &Plan) -> io::Result<()> {
 
 fn report_routers(rt: &LibcRuntime, plan: &Plan) -> io::Result<()> {
     for router in 0..plan.routers() {
-        let column = router % plan.sizes.width;
-        let row = router / plan.sizes.width;
-        println!(rt, "  router {router}, column {column}, row {row}")?;
+        if let Some(at) = plan.position(router) {
+            let column = at.column;
+            let row = at.row;
+            println!(rt, "  router {router}, column {column}, row {row}")?;
+        }
         for port in 0..5 {
             report_port(rt, plan, router, port)?;
         }

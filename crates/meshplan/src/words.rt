@@ -16,14 +16,6 @@ pub fn size_word(size: Size) -> &'static str {
     }
 }
 
-pub fn largest_size(size: Size) -> u8 {
-    match size {
-        Size::Depth => 4,
-        Size::Period => 64,
-        _ => 8,
-    }
-}
-
 // A side, and the port on it; padded to one width, so that timetables stand below each other.
 pub fn side_word(side: u8) -> &'static str {
     match side {
@@ -68,6 +60,6 @@ pub fn kind_word(number: u8) -> &'static str {
     match number {
         2 => "an injection",
         3 => "a number of steps",
-        _ => "no plan",
+        _ => "another frame",
     }
 }

@@ -3,7 +3,7 @@ ghost use mathlib.Core.Path.{_≡_};
 ghost use Rattle.std.specs.Results.{Cases};
 ghost use Rattle.std.specs.declared.option.Option.the-variants.{Some};
 ghost use Rattle.schedule.specs.Plans.{timetable-of};
-ghost use Rattle.frames.specs.Lines.{line-of};
+ghost use Rattle.frames.specs.Lines.{line-value};
 ghost use Rattle.frames.specs.Frames.{frame-value, given-of};
 ghost use Rattle.planner.specs.Judged.{left, judged, judged-bytes, judged-frame, judged-given};
 use frames::choices::ArbiterKind;
@@ -101,7 +101,7 @@ fn judge_bytes(bytes: &[u8], plan: &mut Plan) -> Judgement
 // Judges a line, and takes an accepted timetable up into the caller's plan; for want of memory the plan stays as it is.
 pub fn judge(heap: Global, line: Line<'_>, plan: &mut Plan) -> Result<Judgement, AllocError>
     ensures { λ r. ⌜ Cases r
-        (λ j. left j (timetable-of (now (plan .exit))) ≡ judged (line-of (line .entry)) (timetable-of (now (plan .entry))))
+        (λ j. left j (timetable-of (now (plan .exit))) ≡ judged (line-value (line .entry)) (timetable-of (now (plan .entry))))
         (λ _. timetable-of (now (plan .exit)) ≡ timetable-of (now (plan .entry))) ⌝ }
 {
     let Line::Ended(text) = line else {

@@ -16,6 +16,7 @@ use Rattle.schedule.specs.declared.refusal.Refusal.the-variants.{SizeOutOfLimi
 use Rattle.schedule.specs.declared.sizes.Size.{Size}
 use Rattle.schedule.specs.declared.sizes.Size.the-variants.{Width, Height, Domains, Depth, Hop, Period}
 use Rattle.schedule.specs.declared.sizes.Sizes.{Sizes}
+use Rattle.schedule.specs.Limits.{largest}
 use Rattle.schedule.specs.Mesh.{neighbour-of}
 use Rattle.schedule.specs.Timetable.{Timetable, routers, ports, offset, share, From1To, Link, SlotsNameDomains, DomainsHaveSlots, OffsetsBelow, WaveRule}
 use Rattle.schedule.specs.Verdict.{earliest, limit, size-check, count-check, slot-check, domain-check, offset-check, breaks-at, breaks, wave-check, verdict, WithinLimits, Assigned, Keeps}
@@ -31,15 +32,15 @@ none-from : (check : Option Refusal) (checks : List (Option Refusal)) → check 
     → earliest (check ∷ checks) ≡ None
 none-from check checks e f = rw e f
 
-limit-kept : (size : Size) (top n : ℕ) → limit size top n ≡ None → From1To top n
-limit-kept size top n e = go (leb 1 n && leb n top) refl
+limit-kept : (size : Size) (n : ℕ) → limit size n ≡ None → From1To (largest size) n
+limit-kept size n e = go (leb 1 n && leb n (largest size)) refl
   where
-    go : (b : Bool) → (leb 1 n && leb n top) ≡ b → From1To top n
-    go true t = let p = and-parts (leb 1 n) (leb n top) t in (leb-true 1 n (p .0), leb-true n top (p .1))
+    go : (b : Bool) → (leb 1 n && leb n (largest size)) ≡ b → From1To (largest size) n
+    go true t = let p = and-parts (leb 1 n) (leb n (largest size)) t in (leb-true 1 n (p .0), leb-true n (largest size) (p .1))
     go false t = absurd (let f = rw t at e in let z : _≡_ {A = ℕ} 0 1 = cc in omega arith)
 
-limit-passes : (size : Size) (top n : ℕ) → From1To top n → limit size top n ≡ None
-limit-passes size top n h = let t = and-from (leb 1 n) (leb n top) (le-leb 1 n (h .0)) (le-leb n top (h .1)) in rw t
+limit-passes : (size : Size) (n : ℕ) → From1To (largest size) n → limit size n ≡ None
+limit-passes size n h = let t = and-from (leb 1 n) (leb n (largest size)) (le-leb 1 n (h .0)) (le-leb n (largest size) (h .1)) in rw t
 
 pub sizes-kept : (sizes : Sizes) (period : ℕ) → size-check sizes period ≡ None → WithinLimits sizes period
 sizes-kept sizes period e =
@@ -50,23 +51,23 @@ sizes-kept sizes period e =
     let f = none-parts _ _ (d .1) in
     let g = none-parts _ _ (f .1) in
     record {
-      width = limit-kept Width 8 (sizes .width) (a .0);
-      height = limit-kept Height 8 (sizes .height) (b .0);
-      domains = limit-kept Domains 8 (sizes .domains) (c .0);
-      depth = limit-kept Depth 4 (sizes .depth) (d .0);
-      hop = limit-kept Hop 8 (sizes .hop) (f .0);
-      period-limit = limit-kept Period 64 period (g .0);
+      width = limit-kept Width (sizes .width) (a .0);
+      height = limit-kept Height (sizes .height) (b .0);
+      domains = limit-kept Domains (sizes .domains) (c .0);
+      depth = limit-kept Depth (sizes .depth) (d .0);
+      hop = limit-kept Hop (sizes .hop) (f .0);
+      period-limit = limit-kept Period period (g .0);
     }
 
 pub sizes-pass : (sizes : Sizes) (period : ℕ) → WithinLimits sizes period → size-check sizes period ≡ None
 sizes-pass sizes period h =
     rw (
-      limit-passes Width 8 (sizes .width) (h .width),
-      limit-passes Height 8 (sizes .height) (h .height),
-      limit-passes Domains 8 (sizes .domains) (h .domains),
-      limit-passes Depth 4 (sizes .depth) (h .depth),
-      limit-passes Hop 8 (sizes .hop) (h .hop),
-      limit-passes Period 64 period (h .period-limit),
+      limit-passes Width (sizes .width) (h .width),
+      limit-passes Height (sizes .height) (h .height),
+      limit-passes Domains (sizes .domains) (h .domains),
+      limit-passes Depth (sizes .depth) (h .depth),
+      limit-passes Hop (sizes .hop) (h .hop),
+      limit-passes Period period (h .period-limit),
     )
 
 count-kept : (sizes : Sizes) (offsets : List ℕ) → count-check sizes offsets ≡ None → length offsets ≡ ports sizes

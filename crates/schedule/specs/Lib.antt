@@ -1,4 +1,5 @@
 pub mod Built
+pub mod Limits
 pub mod Mesh
 pub mod Plans
 pub mod Refusals

@@ -8,11 +8,12 @@ use Rattle.std.specs.declared.option.Option.{Option}
 use Rattle.std.specs.declared.option.Option.the-variants.{Some, None}
 use Rattle.std.specs.declared.result.Result.{Result}
 use Rattle.std.specs.declared.result.Result.the-variants.{Ok, Err}
+use Rattle.schedule.specs.declared.geometry.Position.{Position}
 use Rattle.schedule.specs.declared.plan.Plan.{Plan}
 use Rattle.schedule.specs.declared.refusal.Refusal.{Refusal}
 use Rattle.schedule.specs.declared.sizes.Sizes.{Sizes}
 use Rattle.schedule.specs.Built.{built}
-use Rattle.schedule.specs.Mesh.{neighbour-of}
+use Rattle.schedule.specs.Mesh.{position-of, neighbour-of}
 use Rattle.schedule.specs.Timetable.{Timetable, timetable, routers, ports, share, WaveRule}
 use Rattle.schedule.specs.Turns.{owner, gap}
 use Rattle.schedule.specs.Verdict.{verdict, answered, WithinLimits}
@@ -61,6 +62,10 @@ gap-of plan domain = known (ltb domain (plan .sizes .domains)) (gap (timetable-o
 
 abbrev pub share-of : Plan → ℕ → Option ℕ
 share-of plan domain = known (ltb domain (plan .sizes .domains)) (share (timetable-of plan .slots) domain)
+
+-- where a router stands, for the routers of the mesh
+abbrev pub place-of : Plan → ℕ → Option Position
+place-of plan router = known (ltb router (routers (plan .sizes))) (position-of (plan .sizes .width) router)
 
 -- the router on a side of another, for the routers of the mesh
 abbrev pub beside : Plan → ℕ → ℕ → Option ℕ

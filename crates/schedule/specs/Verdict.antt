@@ -14,6 +14,7 @@ use Rattle.schedule.specs.declared.refusal.Refusal.the-variants.{SizeOutOfLimi
 use Rattle.schedule.specs.declared.sizes.Size.{Size}
 use Rattle.schedule.specs.declared.sizes.Size.the-variants.{Width, Height, Domains, Depth, Hop, Period}
 use Rattle.schedule.specs.declared.sizes.Sizes.{Sizes}
+use Rattle.schedule.specs.Limits.{largest}
 use Rattle.schedule.specs.Mesh.{neighbour-of}
 use Rattle.schedule.specs.Search.{first}
 use Rattle.schedule.specs.Timetable.{Timetable, routers, ports, offset, share, From1To, SlotsNameDomains, DomainsHaveSlots, OffsetsBelow, WaveRule}
@@ -28,15 +29,15 @@ earliest (Some why ∷ checks) = Some why
 unfoldable pub refuse-first : (ℕ → Bool) → ℕ → (ℕ → Refusal) → Option Refusal
 refuse-first fails n refusal = cond (ltb (first fails n) n) (Some (refusal (first fails n))) None
 
-abbrev pub limit : Size → ℕ → ℕ → Option Refusal
-limit size top n = cond (leb 1 n && leb n top) None (Some (SizeOutOfLimits size))
+abbrev pub limit : Size → ℕ → Option Refusal
+limit size n = cond (leb 1 n && leb n (largest size)) None (Some (SizeOutOfLimits size))
 
 -- 2: the first size outside its limits
 abbrev pub size-check : Sizes → ℕ → Option Refusal
 size-check sizes period =
     earliest
-    (limit Width 8 (sizes .width) ∷ limit Height 8 (sizes .height) ∷ limit Domains 8 (sizes .domains) ∷ limit Depth 4 (sizes .depth)
-    ∷ limit Hop 8 (sizes .hop) ∷ limit Period 64 period ∷ [])
+    (limit Width (sizes .width) ∷ limit Height (sizes .height) ∷ limit Domains (sizes .domains) ∷ limit Depth (sizes .depth)
+    ∷ limit Hop (sizes .hop) ∷ limit Period period ∷ [])
 
 -- 3: the offset list is not five offsets for each router
 abbrev pub count-check : Sizes → List ℕ → Option Refusal

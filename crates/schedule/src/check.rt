@@ -3,6 +3,7 @@ ghost use mathlib.Core.Path.{_≡_};
 ghost use Prim.Native.Nat.{ℕ, _+_, _*_, _<_, _≤_};
 ghost use lib.ListN.{length};
 ghost use Rattle.std.specs.Vec.{made};
+ghost use Rattle.schedule.specs.Limits.{largest};
 ghost use Rattle.schedule.specs.Timetable.{timetable, From1To, routers as router-count, ports as port-count, share as share-of};
 ghost use Rattle.schedule.specs.Verdict.{answered, verdict, limit, size-check, count-check, slot-check, domain-check, offset-check, wave-check, breaks, WithinLimits};
 use super::geometry::neighbour;
@@ -11,11 +12,11 @@ use super::refusal::Refusal;
 use super::sizes::Size;
 use super::sizes::Sizes;
 
-fn check_limit(size: Size, top: usize, n: usize) -> Result<(), Refusal>
-    ensures is { λ r. ⌜ r ≡ answered (limit size top n) ⌝ }
-    ensures kept { λ r. ⌜ made r (λ _. From1To top n) ⌝ }
+fn check_limit(size: Size, n: usize) -> Result<(), Refusal>
+    ensures is { λ r. ⌜ r ≡ answered (limit size n) ⌝ }
+    ensures kept { λ r. ⌜ made r (λ _. From1To (largest size) n) ⌝ }
 {
-    if n < 1 || n > top {
+    if n < 1 || n > size.largest() as usize {
         return Err(Refusal::SizeOutOfLimits { size });
     }
     Ok(())
@@ -25,12 +26,12 @@ pub(crate) fn check_sizes(sizes: Sizes, period: usize) -> Result<(), Refusal>
     ensures is { λ r. ⌜ r ≡ answered (size-check sizes period) ⌝ }
     ensures kept { λ r. ⌜ made r (λ _. WithinLimits sizes period) ⌝ }
 {
-    check_limit(Size::Width, 8, sizes.width as usize)?;
-    check_limit(Size::Height, 8, sizes.height as usize)?;
-    check_limit(Size::Domains, 8, sizes.domains as usize)?;
-    check_limit(Size::Depth, 4, sizes.depth as usize)?;
-    check_limit(Size::Hop, 8, sizes.hop as usize)?;
-    check_limit(Size::Period, 64, period)
+    check_limit(Size::Width, sizes.width as usize)?;
+    check_limit(Size::Height, sizes.height as usize)?;
+    check_limit(Size::Domains, sizes.domains as usize)?;
+    check_limit(Size::Depth, sizes.depth as usize)?;
+    check_limit(Size::Hop, sizes.hop as usize)?;
+    check_limit(Size::Period, period)
 }
 
 fn check_count(sizes: Sizes, offsets: &[u8]) -> Result<(), Refusal>

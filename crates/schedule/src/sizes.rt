@@ -1,3 +1,6 @@
+ghost use mathlib.Core.Path.{_≡_};
+ghost use Rattle.schedule.specs.Limits.{largest as largest-of};
+
 // The sizes of a mesh and its queues. The sixth size of a plan, its period, is the length of its slot list.
 #[derive(Clone, Copy, PartialEq, Eq)]
 pub struct Sizes {
@@ -22,4 +25,17 @@ pub enum Size {
     Depth,
     Hop,
     Period,
+}
+
+impl Size {
+    // The top of a size's limits; each begins at 1.
+    pub fn largest(self) -> u8
+        ensures { λ r. ⌜ r ≡ largest-of self ⌝ }
+    {
+        match self {
+            Size::Width | Size::Height | Size::Domains | Size::Hop => 8,
+            Size::Depth => 4,
+            Size::Period => 64,
+        }
+    }
 }

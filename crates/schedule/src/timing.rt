@@ -2,11 +2,13 @@
 ghost use mathlib.Core.Path.{_≡_};
 ghost use Prim.Native.Nat.{ℕ, _+_, _<_, _≤_};
 ghost use lib.ListN.{take};
-ghost use Rattle.schedule.specs.Plans.{owner-of, gap-of, share-of, beside as beside-of};
+ghost use Rattle.schedule.specs.Plans.{place-of, owner-of, gap-of, share-of, beside as beside-of};
 ghost use Rattle.schedule.specs.Timetable.{routers as router-count};
 ghost use Rattle.schedule.specs.Turns.{until-next as until-next-of};
 use super::check::share;
+use super::geometry::Position;
 use super::geometry::neighbour;
+use super::geometry::position_of;
 use super::geometry::routers;
 use super::plan::Plan;
 
@@ -17,6 +19,16 @@ impl Plan {
         ensures few { λ r. ⌜ r ≤ 64 ⌝ }
     {
         routers(self.sizes)
+    }
+
+    // Where a router stands; none where the mesh has no such router.
+    pub fn position(&self, router: u8) -> Option<Position>
+        ensures { λ r. ⌜ r ≡ place-of (now (self .entry)) router ⌝ }
+    {
+        if router >= self.routers() {
+            return None;
+        }
+        Some(position_of(self.sizes.width, router))
     }
 
     // The domain that a port belongs to in a cycle; none where the mesh has no such router or port.

@@ -24,8 +24,8 @@ returns-then-wave-breaks c =
     let s = c .loop-side .side in
     let e : (r * 4 + s) / 4 ≡ r = div-mul-add r 4 s (omega arith) in
     let f : (r * 4 + s) % 4 ≡ s = mod-mul-add r 4 s (omega arith) in
-    let broken : breaks sizes (c .args .period) (c .args .offsets .now) ((r * 4 + s) / 4) ((r * 4 + s) % 4) ≡ true =
-    rw (e, f) (sym (c .if-wave-breaks .ensures tt)) in
+    let here : breaks sizes (c .args .period) (c .args .offsets .now) r s ≡ true = sym (c .if-wave-breaks .ensures tt) in
+    let broken : breaks sizes (c .args .period) (c .args .offsets .now) ((r * 4 + s) / 4) ((r * 4 + s) % 4) ≡ true = rw (e, f) here in
     let found = refused-at (λ k. breaks sizes (c .args .period) (c .args .offsets .now) (k / 4) (k % 4)) (routers sizes * 4)
     (λ k. WaveBroken (k / 4) (k % 4)) (r * 4 + s) (omega arith) (c .loop-side .inv .1) broken in
     rw found (rw (e, f))

@@ -10,11 +10,11 @@ use Rattle.std.proofs.shelf.Lists.{take-rest, take-all}
 use Rattle.frames.specs.Lines.{feed-place, first}
 use Rattle.std.proofs.shelf.Tests.{false≢true, eqb-false}
 use Rattle.frames.proofs.Blocks.{line-ended, first-unended, nothing-left}
-use Rattle.frames.proofs.lines.Lines.next_line.Needs as need
+use Rattle.frames.proofs.lines.cut_line.Needs as need
 
 pub returns-then-place-block : need.returns-then-place-block
 returns-then-place-block c =
-    let block = c .args .self .now .rest .now in
+    let block = c .args .block .now in
     let place : c .feed-place-place .result ≡ feed-place block = c .feed-place-place .ensures .place in
     let inside : feed-place block < length block = omega arith in
     let e = line-ended block inside in
@@ -26,7 +26,7 @@ returns-then-place-block c =
 
 pub returns-then-is-empty : need.returns-then-is-empty
 returns-then-is-empty c =
-    let block = c .args .self .now .rest .now in
+    let block = c .args .block .now in
     let place : c .feed-place-place .result ≡ feed-place block = c .feed-place-place .ensures .place in
     let whole : length block ≤ c .feed-place-place .result - 0 = omega arith in
     let past : length block ≤ feed-place block = omega arith in
@@ -39,7 +39,7 @@ returns-then-is-empty c =
 
 pub returns-else-is-empty : need.returns-else-is-empty
 returns-else-is-empty c =
-    let block = c .args .self .now .rest .now in
+    let block = c .args .block .now in
     let place : c .feed-place-place .result ≡ feed-place block = c .feed-place-place .ensures .place in
     let whole : length block ≤ c .feed-place-place .result - 0 = omega arith in
     let past : length block ≤ feed-place block = omega arith in

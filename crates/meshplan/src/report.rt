@@ -78,6 +78,12 @@ fn report_refusal(rt: &LibcRuntime, number: u64, refusal: Refusal) -> io::Result
                 "the wave breaks from router {router} to its neighbour {side}"
             )
         }
+        Refusal::TableTooShort => println!(rt, "a table is shorter than the plan needs"),
+        Refusal::UnsoundTable => println!(rt, "a queue or a packet in the tables is unsound"),
+        Refusal::OutsideMesh => println!(rt, "the router or the destination is not in the mesh"),
+        Refusal::NoSuchDomain => println!(rt, "the plan does not have the domain"),
+        Refusal::QueueFull => println!(rt, "the queue has no free place"),
+        Refusal::CyclesSpent => println!(rt, "the cycle counter is at its end"),
     }
 }
 

@@ -43,6 +43,7 @@ limit-passes : (size : Size) (n : ℕ) → From1To (largest size) n → limit si
 limit-passes size n h = let t = and-from (leb 1 n) (leb n (largest size)) (le-leb 1 n (h .0)) (le-leb n (largest size) (h .1)) in rw t
 
 pub sizes-kept : (sizes : Sizes) (period : ℕ) → size-check sizes period ≡ None → WithinLimits sizes period
+unfolding size-check
 sizes-kept sizes period e =
     let a = none-parts _ _ e in
     let b = none-parts _ _ (a .1) in
@@ -60,6 +61,7 @@ sizes-kept sizes period e =
     }
 
 pub sizes-pass : (sizes : Sizes) (period : ℕ) → WithinLimits sizes period → size-check sizes period ≡ None
+unfolding size-check
 sizes-pass sizes period h =
     rw (
       limit-passes Width (sizes .width) (h .width),
@@ -98,6 +100,7 @@ in-step sizes period offsets wave router side l m = go (neighbour-of (sizes .wid
         ap not (eq-eqb _ _ (wave link))
 
 wave-kept : (sizes : Sizes) (period : ℕ) (offsets : List ℕ) → wave-check sizes period offsets ≡ None → WaveRule sizes period offsets
+unfolding wave-check
 wave-kept sizes period offsets e link =
     let r = link .from in
     let s = link .side in
@@ -109,6 +112,7 @@ wave-kept sizes period offsets e link =
 
 -- what an accepted timetable keeps
 pub accepted-keeps : (t : Timetable) → verdict t ≡ None → Keeps t
+unfolding slot-check domain-check offset-check
 accepted-keeps t e =
     let a = none-parts _ _ e in
     let b = none-parts _ _ (a .1) in
@@ -130,6 +134,7 @@ accepted-keeps t e =
 
 -- what keeps all this is accepted
 pub keeps-accepted : (t : Timetable) → Keeps t → verdict t ≡ None
+unfolding slot-check domain-check offset-check wave-check
 keeps-accepted t h =
     let period = length (t .slots) in
     let slots-pass : slot-check (t .sizes) (t .slots) ≡ None = refused-none _ _ _ (λ k l. lt-leb _ _ (h .assigned .named k l)) in

@@ -33,7 +33,7 @@ abbrev pub limit : Size → ℕ → Option Refusal
 limit size n = cond (leb 1 n && leb n (largest size)) None (Some (SizeOutOfLimits size))
 
 -- 2: the first size outside its limits
-abbrev pub size-check : Sizes → ℕ → Option Refusal
+unfoldable pub size-check : Sizes → ℕ → Option Refusal
 size-check sizes period =
     earliest
     (limit Width (sizes .width) ∷ limit Height (sizes .height) ∷ limit Domains (sizes .domains) ∷ limit Depth (sizes .depth)
@@ -44,15 +44,15 @@ abbrev pub count-check : Sizes → List ℕ → Option Refusal
 count-check sizes offsets = cond (eqb (length offsets) (ports sizes)) None (Some OffsetCount)
 
 -- 4: the first slot that names a domain the plan does not have
-abbrev pub slot-check : Sizes → List ℕ → Option Refusal
+unfoldable pub slot-check : Sizes → List ℕ → Option Refusal
 slot-check sizes slots = refuse-first (λ k. leb (sizes .domains) (getD slots k 0)) (length slots) UnknownDomain
 
 -- 5: the lowest domain that no slot names
-abbrev pub domain-check : Sizes → List ℕ → Option Refusal
+unfoldable pub domain-check : Sizes → List ℕ → Option Refusal
 domain-check sizes slots = refuse-first (λ d. eqb (share slots d) 0) (sizes .domains) DomainWithoutSlot
 
 -- 6: the first offset that is not below the period
-abbrev pub offset-check : ℕ → List ℕ → Option Refusal
+unfoldable pub offset-check : ℕ → List ℕ → Option Refusal
 offset-check period offsets = refuse-first (λ k. leb period (getD offsets k 0)) (length offsets) (λ k. OffsetTooLarge (k / 5) (k % 5))
 
 -- whether the wave breaks between a router and its neighbour on a side, if it has one there
@@ -66,7 +66,7 @@ breaks sizes period offsets router side =
     breaks-at sizes period offsets router side (neighbour-of (sizes .width) (sizes .height) router side)
 
 -- 7: the first port, by router and then by side, at which the wave breaks
-abbrev pub wave-check : Sizes → ℕ → List ℕ → Option Refusal
+unfoldable pub wave-check : Sizes → ℕ → List ℕ → Option Refusal
 wave-check sizes period offsets =
     refuse-first (λ k. breaks sizes period offsets (k / 4) (k % 4)) (routers sizes * 4) (λ k. WaveBroken (k / 4) (k % 4))
 

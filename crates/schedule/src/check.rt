@@ -133,7 +133,8 @@ fn check_wave(sizes: Sizes, period: u8, offsets: &[u8]) -> Result<(), Refusal>
 }
 
 pub(crate) fn check(sizes: Sizes, slots: &[u8], offsets: &[u8]) -> Result<(), Refusal>
-    ensures { λ r. ⌜ r ≡ answered (verdict (timetable sizes (now (slots .entry)) (now (offsets .entry)))) ⌝ }
+    ensures is { λ r. ⌜ r ≡ answered (verdict (timetable sizes (now (slots .entry)) (now (offsets .entry)))) ⌝ }
+    ensures kept { λ r. ⌜ made r (λ _. WithinLimits sizes (length (now (slots .entry)))) ⌝ }
 {
     check_sizes(sizes, slots.len())?;
     let period = slots.len() as u8;

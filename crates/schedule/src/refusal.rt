@@ -20,6 +20,18 @@ pub enum Refusal {
     OffsetTooLarge { router: u8, port: u8 },
     // the first port, by router and then by side, at which the wave breaks
     WaveBroken { router: u8, side: u8 },
+    // a table is shorter than the plan needs
+    TableTooShort,
+    // a queue record does not fit its places, or a held packet does not belong into the mesh or the present cycle
+    UnsoundTable,
+    // the router or the destination is not in the mesh
+    OutsideMesh,
+    // the plan does not have the domain
+    NoSuchDomain,
+    // the queue has no free place
+    QueueFull,
+    // the cycle counter is at its end
+    CyclesSpent,
 }
 
 impl Refusal {
@@ -35,6 +47,12 @@ impl Refusal {
             Refusal::DomainWithoutSlot { .. } => 5,
             Refusal::OffsetTooLarge { .. } => 6,
             Refusal::WaveBroken { .. } => 7,
+            Refusal::TableTooShort => 8,
+            Refusal::UnsoundTable => 9,
+            Refusal::OutsideMesh => 10,
+            Refusal::NoSuchDomain => 11,
+            Refusal::QueueFull => 12,
+            Refusal::CyclesSpent => 13,
         }
     }
 }

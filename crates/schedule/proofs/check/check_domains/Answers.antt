@@ -6,11 +6,12 @@ use lib.Dec.{eqb}
 use Rattle.std.proofs.shelf.Tests.{eq-eqb, ne-eqb}
 use Rattle.schedule.specs.declared.refusal.Refusal.the-variants.{DomainWithoutSlot}
 use Rattle.schedule.specs.Timetable.{share}
-use Rattle.schedule.specs.Verdict.{answered}
+use Rattle.schedule.specs.Verdict.{answered, domain-check}
 use Rattle.schedule.proofs.Refuse.{refused-at, refused-none}
 use Rattle.schedule.proofs.check.check_domains.Needs as need
 
 pub returns-then-share-eq0 : need.returns-then-share-eq0
+unfolding domain-check
 returns-then-share-eq0 c =
     let xs = c .args .slots .now in
     let none : eqb (share xs (c .loop-domain .domain)) 0 ≡ true = eq-eqb _ 0 (sym (c .share .ensures .is) ∙ c .if-share-eq0 .taken) in
@@ -24,6 +25,7 @@ loop-domain-again c =
     (ne-eqb (share (c .args .slots .now) (c .loop-domain .domain)) 0 (λ e. c .if-share-eq0 .left (c .share .ensures .is ∙ e)))
 
 pub returns : need.returns
+unfolding domain-check
 returns c =
     sym (ap answered
     (refused-none (λ d. eqb (share (c .args .slots .now) d) 0) (c .args .sizes .domains) DomainWithoutSlot

@@ -6,11 +6,12 @@ use Rattle.std.proofs.shelf.Bits.{div-mul-add, mod-mul-add}
 use Rattle.schedule.specs.declared.refusal.Refusal.the-variants.{WaveBroken}
 use Rattle.std.specs.declared.result.Result.the-variants.{Err}
 use Rattle.schedule.specs.Timetable.{routers}
-use Rattle.schedule.specs.Verdict.{answered, breaks}
+use Rattle.schedule.specs.Verdict.{answered, wave-check, breaks}
 use Rattle.schedule.proofs.Refuse.{refused-at, refused-none}
 use Rattle.schedule.proofs.check.check_wave.Needs as need
 
 pub returns-after-scan : need.returns-after-scan
+unfolding wave-check
 returns-after-scan c =
     let sizes = c .args .sizes in
     c .scan .inv .0 ∙ sym (ap answered
@@ -18,6 +19,7 @@ returns-after-scan c =
     (λ k. WaveBroken (k / 4) (k % 4)) (λ k l. c .scan .inv .1 k (omega arith))))
 
 pub returns-then-wave-breaks : need.returns-then-wave-breaks
+unfolding wave-check
 returns-then-wave-breaks c =
     let sizes = c .args .sizes in
     let r = c .scan .router in

@@ -18,7 +18,7 @@ returns-in-Break-check c =
     let t = timetable (c .args .sizes) (c .args .slots .now) (c .args .offsets .now) in
     let why = c .in-Break-check .field-0 .0 in
     let p = err-from-errBy (c .from-residual .result) (c .from-residual .ensures .1) in
-    let e = c .in-Break-check .ensures tt in
+    let e = c .in-Break-check .ensures tt .is in
     rw (p .1, p .2)
     record {
       left = left-old t (timetable-of (c .args .self .now)) (verdict t) why (failed (verdict t) why e);
@@ -28,7 +28,7 @@ returns-in-Break-check c =
 pub stored-requires-2 : need.stored-requires-2
 stored-requires-2 c κs =
     let t = timetable (c .args .sizes) (c .args .slots .now) (c .args .offsets .now) in
-    let keeps = accepted-keeps t (passed (verdict t) (c .in-Continue-check .ensures tt)) in
+    let keeps = accepted-keeps t (passed (verdict t) (c .in-Continue-check .ensures tt .is)) in
     let few = mul-le (c .args .sizes .width) (c .args .sizes .height) 8 8 (omega arith) (omega arith) in
     (omega arith, let l : length (c .args .offsets .now) ≤ 320 = omega arith in l)
 
@@ -37,7 +37,7 @@ ghost-self c =
     let sizes = c .args .sizes in
     let period = length (c .args .slots .now) in
     let t = timetable sizes (c .args .slots .now) (c .args .offsets .now) in
-    let keeps = accepted-keeps t (passed (verdict t) (c .in-Continue-check .ensures tt)) in
+    let keeps = accepted-keeps t (passed (verdict t) (c .in-Continue-check .ensures tt .is)) in
     let limits = keeps .assigned .limits in
     let slots = sym (ap (take period) (c .stored .ensures) ∙ take-padded 64 (c .args .slots .now) period refl) in
     let offsets = sym (ap (take (ports sizes)) (c .stored-2 .ensures)
@@ -81,7 +81,7 @@ returns c =
     let sizes = c .args .sizes in
     let period = length (c .args .slots .now) in
     let t = timetable sizes (c .args .slots .now) (c .args .offsets .now) in
-    let e = c .in-Continue-check .ensures tt in
+    let e = c .in-Continue-check .ensures tt .is in
     let keeps = accepted-keeps t (passed (verdict t) e) in
     let slots = ap (take period) (c .stored .ensures) ∙ take-padded 64 (c .args .slots .now) period refl in
     let offsets = ap (take (ports sizes)) (c .stored-2 .ensures)

@@ -1,10 +1,10 @@
 use mathlib.Core.Path.{refl}
 use Rattle.schedule.specs.Built.{built, built-entry}
-use Rattle.schedule.specs.Verdict.{refuse-first, breaks}
+use Rattle.schedule.specs.Verdict.{size-check, slot-check, domain-check, offset-check, wave-check, refuse-first, breaks}
 use Rattle.examples.proofs.proved.worked_examples_hold.Needs as need
 
 pub returns : need.returns
-unfolding built built-entry refuse-first breaks
+unfolding built built-entry size-check slot-check domain-check offset-check wave-check refuse-first breaks
 returns c = record {
   east-of-5 = refl;
   west-of-5 = refl;

@@ -149,11 +149,11 @@ fn report_routers(rt: &LibcRuntime, plan: &Plan) -> io::Result<()> {
 // The owner of a port in each cycle of one period, a digit a cycle.
 fn report_port(rt: &LibcRuntime, plan: &Plan, router: u8, port: u8) -> io::Result<()> {
     let side = side_word(port);
-    print!(rt, "    {side} ")?;
+    let mut owners = String::new(rt.alloc());
     for cycle in 0..u32::from(plan.period) {
         if let Some(owner) = plan.owner(router, port, cycle) {
-            print!(rt, "{owner}")?;
+            owners.push(char::from(b'0'.saturating_add(owner)))?;
         }
     }
-    println!(rt, "")
+    println!(rt, "    {side} {owners}")
 }

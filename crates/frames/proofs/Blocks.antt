@@ -14,7 +14,8 @@ use Rattle.std.proofs.shelf.Lists.{drop-all, take-rest}
 use Rattle.std.proofs.shelf.Tests.{cases-lt, cases-eq, cond-false, eq-eqb, ne-eqb}
 use Rattle.std.specs.declared.option.Option.{Option}
 use Rattle.std.specs.declared.option.Option.the-variants.{Some, None}
-use Rattle.frames.specs.Lines.{LineText, ended, unended, line-feed, feed-place, after-line, begun, all-lines, first, first-line, line-bytes, Orderly, Whole, Walked}
+use Rattle.frames.specs.Lines.{LineText, ended, unended, line-feed, feed-place, after-line, begun}
+use Rattle.frames.specs.Lines.{all-lines, first, first-line, line-bytes, Orderly, Whole, Walked}
 
 ended-at :
     (x : ℕ) (xs : List ℕ) (feed : Bool)
@@ -25,7 +26,9 @@ ended-at :
 ended-at x xs true more h = refl
 ended-at x xs false more h = ap (begun x) (more (omega arith))
 
-pub line-ended : (block : List ℕ) → feed-place block < length block → all-lines block ≡ ended (take (feed-place block) block) ∷ all-lines (after-line block)
+pub line-ended :
+    (block : List ℕ) → feed-place block < length block
+    → all-lines block ≡ ended (take (feed-place block) block) ∷ all-lines (after-line block)
 line-ended [] h = absurd (omega arith)
 line-ended (x ∷ xs) h = ended-at x xs (eqb x line-feed) (line-ended xs) h
 

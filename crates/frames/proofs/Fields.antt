@@ -1,6 +1,6 @@
 -- The bytes of a frame, as the code takes them apart.
 use mathlib.Core.Path.{_≡_, refl, sym, _∙_, ap}
-use mathlib.Core.List.{List, _∷_, _++_, map}
+use mathlib.Core.List.{List, [], _∷_, _++_, map}
 use Prim.Native.Nat.{ℕ, zero, suc, _+_, _-_, _≤_, _<_}
 use native.Mathlib.Nat.{add-zero}
 use native.Mathlib.Omega.{arith}
@@ -13,9 +13,8 @@ use Rattle.std.specs.declared.result.Result.{Result}
 use Rattle.std.proofs.shelf.Lists.{append-nil, drop-all, drop-more}
 use Rattle.std.proofs.shelf.Tests.{le-leb}
 use Rattle.schedule.specs.declared.refusal.Refusal.{Refusal}
-use Rattle.schedule.specs.declared.sizes.Sizes.{Sizes}
 use Rattle.frames.specs.Choices.{arbiter-of, route-of, payload-of}
-use Rattle.frames.specs.Frames.{plan-of, told}
+use Rattle.frames.specs.Frames.{plan-of, sizes-of, told}
 use Rattle.frames.specs.declared.choices.ArbiterKind.{ArbiterKind}
 use Rattle.frames.specs.declared.choices.RouteKind.{RouteKind}
 use Rattle.frames.specs.declared.choices.PayloadKind.{PayloadKind}
@@ -36,10 +35,6 @@ listed-all xs i n h =
     let places = map (λ k. getD xs k 0) (counting i n) in
     let past : length xs ≤ i + n = omega arith in
     sym (append-nil places) ∙ (ap (λ (ys : List ℕ). places ++ ys) (sym (drop-all (i + n) xs past)) ∙ listed xs i n (omega arith))
-
-abbrev pub sizes-of : List ℕ → Sizes
-sizes-of fields =
-    record { width = getD fields 0 0; height = getD fields 1 0; domains = getD fields 2 0; depth = getD fields 3 0; hop = getD fields 4 0 }
 
 pub plan-made :
     (fields rest slots offsets : List ℕ) (arbiter : ArbiterKind) (route : RouteKind) (payload : PayloadKind)
@@ -64,3 +59,8 @@ pub told-of :
     {A B : Type 0} (value : A → B) (o : Option A) (v : Option B) (e : Refusal) (r : Result A Refusal)
     → r ≡ okOr o e → mapped value o ≡ v → told value r ≡ okOr v e
 told-of value o v e r er ev = rw (er, ← ev) (told-okOr value o e)
+
+-- the bytes behind the first, and the first
+pub parted : (bytes fields : List ℕ) (kind : ℕ) → 1 ≤ length bytes → fields ≡ drop 1 bytes → getD bytes 0 0 ≡ kind → bytes ≡ kind ∷ fields
+parted [] fields kind h e k = absurd (omega arith)
+parted (b ∷ bs) fields kind h e k = λ i. k i ∷ sym e i

@@ -13,7 +13,8 @@ use Rattle.std.proofs.shelf.Lists.{append-nil, drop-at, length-take-le, take-ap
 use Rattle.std.proofs.shelf.Tests.{eq-eqb, eqb-true, le-leb, leb-true}
 use Rattle.schedule.specs.declared.sizes.Sizes.{Sizes}
 use Rattle.frames.specs.Choices.{arbiter-number, arbiter-of, route-number, route-of, payload-number, payload-of}
-use Rattle.frames.specs.Frames.{PlanValue, GivenValue, FrameValue, plan, inject, steps, plan-bytes, frame-bytes, given-bytes, chosen, plan-of, bare, injection-of, steps-of, decoded, given-of, Sound, One-frame, One-given}
+use Rattle.frames.specs.Frames.{PlanValue, GivenValue, FrameValue, plan, inject, steps, plan-bytes, frame-bytes, given-bytes, chosen}
+use Rattle.frames.specs.Frames.{plan-of, bare, injection-of, steps-of, decoded, given-of, Sound, One-frame, One-given, sizes-of}
 use Rattle.frames.specs.declared.choices.ArbiterKind.{ArbiterKind}
 use Rattle.frames.specs.declared.choices.ArbiterKind.the-variants.{Fixed, Rotating, OrderList}
 use Rattle.frames.specs.declared.choices.RouteKind.{RouteKind}
@@ -21,7 +22,7 @@ use Rattle.frames.specs.declared.choices.RouteKind.the-variants.{ColumnsFirst,
 use Rattle.frames.specs.declared.choices.PayloadKind.{PayloadKind}
 use Rattle.frames.specs.declared.choices.PayloadKind.the-variants.{Word, Record}
 use Rattle.frames.proofs.Apart.{named-has}
-use Rattle.frames.proofs.Fields.{listed, listed-all, sizes-of}
+use Rattle.frames.proofs.Fields.{listed, listed-all}
 
 arbiter-back : (k : ArbiterKind) → arbiter-of (arbiter-number k) ≡ Some k
 arbiter-back Fixed = refl

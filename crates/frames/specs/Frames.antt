@@ -2,7 +2,8 @@
 use mathlib.Core.Path.{_≡_}
 use mathlib.Core.Bool.{cond}
 use mathlib.Core.List.{List, [], _∷_, _++_}
-use Prim.Native.Nat.{ℕ, _+_}
+use Prim.Native.Nat.{ℕ, _+_, _<_, _≤_}
+use denote.Ref.{RefT}
 use lib.Dec.{eqb, leb}
 use lib.ListN.{length, getD, take, drop}
 use Rattle.std.specs.declared.option.Option.{Option}
@@ -77,15 +78,30 @@ chosen sizes (Some arbiter) (Some route) None slots offsets = None
 chosen sizes (Some arbiter) (Some route) (Some payload) slots offsets =
     Some (record { plan = record { sizes = sizes; arbiter = arbiter; route = route; payload = payload; slots = slots }; offsets = offsets })
 
+-- the sizes that the first five bytes name
+abbrev pub sizes-of : List ℕ → Sizes
+sizes-of fields = record {
+  width = getD fields 0 0;
+  height = getD fields 1 0;
+  domains = getD fields 2 0;
+  depth = getD fields 3 0;
+  hop = getD fields 4 0;
+}
+
 -- the plan that begins the fields, if nine bytes and as many slots as the ninth counts are there; what follows are offsets
 abbrev pub plan-of : List ℕ → Option GivenValue
 plan-of fields =
     cond (leb (9 + getD fields 8 0) (length fields))
     (chosen
-    (record { width = getD fields 0 0; height = getD fields 1 0; domains = getD fields 2 0; depth = getD fields 3 0; hop = getD fields 4 0 })
-    (arbiter-of (getD fields 5 0)) (route-of (getD fields 6 0)) (payload-of (getD fields 7 0))
+    (sizes-of fields) (arbiter-of (getD fields 5 0)) (route-of (getD fields 6 0)) (payload-of (getD fields 7 0))
     (take (getD fields 8 0) (drop 9 fields)) (drop (getD fields 8 0) (drop 9 fields)))
     None
+
+-- bytes split behind so many, where there are that many
+abbrev pub Split : ℕ → List ℕ → Option (RefT (List ℕ) × RefT (List ℕ)) → Type 0
+Split count bytes None = length bytes < count
+Split count bytes (Some parts) =
+    (count ≤ length bytes) × (parts .0 .now ≡ take count bytes) × (parts .1 .now ≡ drop count bytes)
 
 -- a plan without offsets
 abbrev pub bare : Option GivenValue → Option FrameValue
@@ -96,7 +112,9 @@ bare (Some given) = cond (eqb (length (given .offsets)) 0) (Some (plan (given .p
 abbrev pub injection-of : List ℕ → Option FrameValue
 injection-of fields =
     cond (eqb (length fields) 7)
-    (Some (inject (getD fields 0 0) (getD fields 1 0) (getD fields 2 0) (getD fields 3 0 ∷ getD fields 4 0 ∷ getD fields 5 0 ∷ getD fields 6 0 ∷ [])))
+    (Some
+    (inject (getD fields 0 0) (getD fields 1 0) (getD fields 2 0)
+    (getD fields 3 0 ∷ getD fields 4 0 ∷ getD fields 5 0 ∷ getD fields 6 0 ∷ [])))
     None
 
 -- one byte, the number of steps

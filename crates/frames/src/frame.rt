@@ -45,7 +45,9 @@ pub fn decode<'a>(bytes: &'a [u8]) -> Result<Frame<'a>, Refusal>
 fn frame_of<'a>(bytes: &'a [u8]) -> Option<Frame<'a>>
     ensures { λ r. ⌜ mapped frame-value r ≡ decoded (now (bytes .entry)) ⌝ }
 {
-    let (kind, fields) = bytes.split_first()?;
+    let [kind, fields @ ..] = bytes else {
+        return None;
+    };
     match *kind {
         1 => bare_plan(fields),
         2 => injection(fields),

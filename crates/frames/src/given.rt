@@ -1,9 +1,7 @@
 ghost use mathlib.Core.Path.{_≡_};
-ghost use Prim.Native.Nat.{_<_, _≤_};
-ghost use lib.ListN.{drop, length, take};
-ghost use Rattle.std.specs.Options.{Cases as BySome, mapped, okOr};
+ghost use Rattle.std.specs.Options.{mapped, okOr};
 ghost use Rattle.schedule.specs.declared.refusal.Refusal.the-variants.{NotAFrame};
-ghost use Rattle.frames.specs.Frames.{One-given, given-of, given-value, plan-of, told};
+ghost use Rattle.frames.specs.Frames.{One-given, Split, given-of, given-value, plan-of, told};
 use super::choices::ArbiterKind;
 use super::choices::PayloadKind;
 use super::choices::RouteKind;
@@ -32,7 +30,9 @@ pub fn decode_given<'a>(bytes: &'a [u8]) -> Result<GivenPlan<'a>, Refusal>
 fn given_plan<'a>(bytes: &'a [u8]) -> Option<GivenPlan<'a>>
     ensures { λ r. ⌜ mapped given-value r ≡ given-of (now (bytes .entry)) ⌝ }
 {
-    let (kind, fields) = bytes.split_first()?;
+    let [kind, fields @ ..] = bytes else {
+        return None;
+    };
     match *kind {
         6 => plan_fields(fields),
         _ => None,
@@ -77,7 +77,7 @@ pub(crate) fn plan_fields<'a>(fields: &'a [u8]) -> Option<GivenPlan<'a>>
 
 // As many slots as the period says, and the bytes behind them.
 fn split_slots<'a>(period: u8, bytes: &'a [u8]) -> Option<(&'a [u8], &'a [u8])>
-    ensures { λ r. ⌜ BySome r (length (now (bytes .entry)) < period) (λ p. (period ≤ length (now (bytes .entry))) × (now (p .0) ≡ take period (now (bytes .entry))) × (now (p .1) ≡ drop period (now (bytes .entry)))) ⌝ }
+    ensures { λ r. ⌜ Split period (now (bytes .entry)) r ⌝ }
 {
     let period = period as usize;
     if bytes.len() < period {

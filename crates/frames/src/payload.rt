@@ -1,5 +1,5 @@
 ghost use mathlib.Core.Path.{_≡_};
-ghost use Rattle.frames.specs.Numerals.{bytes-number, number-bytes};
+ghost use Rattle.frames.specs.Numerals.{number-at, number-bytes};
 ghost use Rattle.frames.specs.Payloads.{Collections-back, Words-back, collection-payload, payload-collection};
 
 // What was collected: how many litres, from which tank.
@@ -17,7 +17,7 @@ pub fn word_bytes(word: u32) -> [u8; 4]
 }
 
 pub fn word_from(bytes: [u8; 4]) -> u32
-    ensures { λ r. ⌜ r ≡ bytes-number bytes ⌝ }
+    ensures { λ r. ⌜ r ≡ number-at bytes 0 4 ⌝ }
 {
     u32::from_be_bytes(bytes)
 }

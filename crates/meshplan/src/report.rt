@@ -7,7 +7,6 @@ use super::words::route_word;
 use super::words::side_word;
 use super::words::size_word;
 use planner::judgement::Judgement;
-use planner::judgement::Offsets;
 use planner::limits::Excess;
 use planner::limits::meshrun_excess;
 use schedule::plan::Plan;
@@ -32,8 +31,12 @@ pub fn report_line(
             let arbiter = arbiter_word(arbiter);
             let route = route_word(route);
             let payload = payload_word(payload);
-            println!(rt, "  arbiter {arbiter}, route {route}, payload {payload}")?;
-            report_meshrun(rt, plan, offsets)?;
+            let offsets = offsets_word(offsets);
+            println!(
+                rt,
+                "  arbiter {arbiter}, route {route}, payload {payload}, offsets {offsets}"
+            )?;
+            report_meshrun(rt, plan)?;
             report_domains(rt, plan)?;
             report_routers(rt, plan)
         }
@@ -65,25 +68,25 @@ fn report_refusal(rt: &LibcRuntime, number: u64, refusal: Refusal) -> io::Result
         ),
         Refusal::DomainWithoutSlot { domain } => println!(rt, "domain {domain} has no slot"),
         Refusal::OffsetTooLarge { router, port } => {
-            let side = side_word(port).trim_end();
+            let side = side_word(port);
             println!(
                 rt,
                 "the offset of router {router}, port {side}, is not below the number of slots"
             )
         }
         Refusal::WaveBroken { router, side } => {
-            let side = side_word(side).trim_end();
+            let side = side_word(side);
             println!(
                 rt,
                 "the wave breaks from router {router} to its neighbour {side}"
             )
         }
         Refusal::TableTooShort => println!(rt, "a table is shorter than the plan needs"),
-        Refusal::UnsoundTable => println!(rt, "a queue or a packet in the tables is unsound"),
+        Refusal::UnsoundTable => println!(rt, "a queue record or a held packet is unsound"),
         Refusal::OutsideMesh => println!(rt, "the router or the destination is not in the mesh"),
         Refusal::NoSuchDomain => println!(rt, "the plan does not have the domain"),
-        Refusal::QueueFull => println!(rt, "the queue has no free place"),
-        Refusal::CyclesSpent => println!(rt, "the cycle counter is at its end"),
+        Refusal::QueueFull => println!(rt, "the queue is full"),
+        Refusal::CyclesSpent => println!(rt, "no cycle is left to run"),
     }
 }
 
@@ -97,25 +100,19 @@ fn report_sizes(rt: &LibcRuntime, plan: &Plan) -> io::Result<()> {
     let period = plan.period;
     println!(
         rt,
-        "  columns {width}, rows {height}, domains {domains}, queue places {depth}, hop {hop}, slots {period}"
+        "  columns {width}, rows {height}, domains {domains}, queue places {depth}, cycles a hop {hop}, slots {period}"
     )
 }
 
 // Whether the smaller limits of the program `meshrun` allow the plan too.
-fn report_meshrun(rt: &LibcRuntime, plan: &Plan, offsets: Offsets) -> io::Result<()> {
-    let word = offsets_word(offsets);
-    print!(rt, "  offsets {word}; ")?;
-    match (offsets, meshrun_excess(plan)) {
-        (Offsets::Given, _) => println!(rt, "meshrun refuses it by 1: it reads no offsets"),
-        (Offsets::Built, Some(Excess::Routers)) => println!(
-            rt,
-            "meshrun refuses it by 2: it allows 16 routers"
-        ),
-        (Offsets::Built, Some(Excess::Domains)) => println!(
-            rt,
-            "meshrun refuses it by 2: it allows 4 domains"
-        ),
-        (Offsets::Built, None) => println!(rt, "meshrun allows it"),
+fn report_meshrun(rt: &LibcRuntime, plan: &Plan) -> io::Result<()> {
+    let Some(excess) = meshrun_excess(plan) else {
+        return println!(rt, "  within the limits of meshrun");
+    };
+    let allowed = excess.allowed();
+    match excess {
+        Excess::Routers => println!(rt, "  meshrun refuses it by 2: more than {allowed} routers"),
+        Excess::Domains => println!(rt, "  meshrun refuses it by 2: more than {allowed} domains"),
     }
 }
 
@@ -155,5 +152,5 @@ fn report_port(rt: &LibcRuntime, plan: &Plan, router: u8, port: u8) -> io::Resul
             owners.push(char::from(b'0'.saturating_add(owner)))?;
         }
     }
-    println!(rt, "    {side} {owners}")
+    println!(rt, "    {side:<5} {owners}")
 }

@@ -7,20 +7,20 @@ use schedule::sizes::Size;
 
 pub fn size_word(size: Size) -> &'static str {
     match size {
-        Size::Width => "width",
-        Size::Height => "height",
+        Size::Width => "number of columns",
+        Size::Height => "number of rows",
         Size::Domains => "number of domains",
-        Size::Depth => "queue depth",
-        Size::Hop => "hop",
+        Size::Depth => "number of queue places",
+        Size::Hop => "number of cycles a hop",
         Size::Period => "number of slots",
     }
 }
 
-// A side, and the port on it; padded to one width, so that timetables stand below each other.
+// A side, and the port on it.
 pub fn side_word(side: u8) -> &'static str {
     match side {
-        0 => "east ",
-        1 => "west ",
+        0 => "east",
+        1 => "west",
         2 => "south",
         3 => "north",
         _ => "local",

@@ -1,7 +1,7 @@
 -- What becomes of a line of a planner's file, and of the plan that the caller holds.
 use mathlib.Core.List.{List}
 use Prim.Native.Nat.{ℕ}
-use lib.ListN.{length}
+use lib.ListN.{length, getD}
 use Rattle.std.specs.declared.option.Option.{Option}
 use Rattle.std.specs.declared.option.Option.the-variants.{Some, None}
 use Rattle.schedule.specs.declared.refusal.Refusal.{Refusal}
@@ -9,7 +9,7 @@ use Rattle.schedule.specs.declared.refusal.Refusal.the-variants.{NotAFrame}
 use Rattle.schedule.specs.Built.{built}
 use Rattle.schedule.specs.Timetable.{Timetable, timetable}
 use Rattle.schedule.specs.Verdict.{verdict}
-use Rattle.frames.specs.Frames.{PlanValue, GivenValue, FrameValue, plan, inject, steps, decoded, given-of}
+use Rattle.frames.specs.Frames.{PlanValue, GivenValue, FrameValue, plan, inject, steps, frame-bytes, decoded, given-of}
 use Rattle.frames.specs.Hex.{bytes-of}
 use Rattle.frames.specs.Lines.{LineText, ended, unended}
 use Rattle.planner.specs.declared.judgement.Judgement.{Judgement}
@@ -34,11 +34,15 @@ abbrev pub tried : PlanValue → Offsets → List ℕ → Timetable → Left
 tried p offsets list held =
     tried-by (verdict (timetable (p .sizes) (p .slots) list)) p offsets (timetable (p .sizes) (p .slots) list) held
 
--- a plan frame has its offsets built; any other frame is no plan, and is told by its number
+-- a frame that is no plan is told by its number, its first byte
+abbrev pub another : FrameValue → Timetable → Left
+another frame held = left (AnotherKind (getD (frame-bytes frame) 0 0)) held
+
+-- a plan frame has its offsets built
 abbrev pub judged-frame : FrameValue → Timetable → Left
 judged-frame (plan p) held = tried p Built (built (p .sizes) (length (p .slots))) held
-judged-frame (inject router domain destination payload) held = left (AnotherKind 2) held
-judged-frame (steps count) held = left (AnotherKind 3) held
+judged-frame (inject router domain destination payload) held = another (inject router domain destination payload) held
+judged-frame (steps count) held = another (steps count) held
 
 -- a planner's own frame brings its offsets
 abbrev pub judged-given : Option GivenValue → Timetable → Left

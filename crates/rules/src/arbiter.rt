@@ -14,7 +14,7 @@ pub trait Arbiter {
 
     law arbitrates: { (a : Self) → Arbitrates (bits a) (meaning a) };
 
-    // How many bits of memory one port needs for its word.
+    // How many bits of memory one word needs; a mesh keeps a word for each port and domain.
     fn memory_bits(&self) -> u32
         ensures { λ r. ⌜ r ≡ bits (now (self .entry)) ⌝ };
 

@@ -14,6 +14,7 @@ use Rattle.schedule.specs.declared.geometry.Position.{Position}
 use Rattle.schedule.specs.declared.sizes.Sizes.{Sizes}
 use Rattle.schedule.specs.Built.{remainder, minus-remainder, cycles-from-corner, built-offset, built-entry, built}
 use Rattle.schedule.specs.Mesh.{position-of, router-at, neighbour}
+use Rattle.schedule.specs.Plans.{BuiltKeep}
 use Rattle.schedule.specs.Timetable.{timetable, routers, ports, offset, From1To, Link, OffsetsBelow, WaveRule}
 use Rattle.schedule.specs.Verdict.{Assigned, Keeps}
 use Rattle.schedule.proofs.Neighbours.{Step, placed, neighbour-step, position-router, position-within}
@@ -100,16 +101,18 @@ module _ (sizes : Sizes) (period : ℕ) where
       ap (λ o. (o + sizes .hop) % period) there
       ∙ (ends (sizes .hop) period (link .side) from (found .0) p (step .0) ∙ ap (λ o. o % period) (sym here))
 
+pub built-offsets-keep : (sizes : Sizes) (period : ℕ) → BuiltKeep sizes period
+built-offsets-keep sizes period limits = record {
+  counted = built-length sizes period;
+  below = built-below sizes period (omega arith);
+  wave = built-wave sizes period (omega arith) (omega arith);
+}
+
 -- with built offsets a timetable is accepted exactly when its sizes and slots are
 pub built-keeps : (sizes : Sizes) (slots : List ℕ) → Assigned sizes slots → Keeps (timetable sizes slots (built sizes (length slots)))
 built-keeps sizes slots a =
-    let limits = a .limits in
-    record {
-      assigned = a;
-      counted = built-length sizes (length slots);
-      below = built-below sizes (length slots) (omega arith);
-      wave = built-wave sizes (length slots) (omega arith) (omega arith);
-    }
+    let offsets = built-offsets-keep sizes (length slots) (a .limits) in
+    record { assigned = a; counted = offsets .counted; below = offsets .below; wave = offsets .wave }
 
 pub decides-assigned : (sizes : Sizes) (slots : List ℕ) (r : Bool)
     → Decides r (Keeps (timetable sizes slots (built sizes (length slots)))) → Decides r (Assigned sizes slots)

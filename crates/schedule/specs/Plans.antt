@@ -1,4 +1,5 @@
 -- Plans: the timetable that a plan holds, and what a plan call leaves.
+use mathlib.Core.Path.{_≡_}
 use mathlib.Core.Bool.{Bool, true, false, cond, _&&_}
 use mathlib.Core.List.{List, [], _∷_}
 use Prim.Native.Nat.{ℕ}
@@ -14,7 +15,7 @@ use Rattle.schedule.specs.declared.refusal.Refusal.{Refusal}
 use Rattle.schedule.specs.declared.sizes.Sizes.{Sizes}
 use Rattle.schedule.specs.Built.{built}
 use Rattle.schedule.specs.Mesh.{position-of, neighbour-of}
-use Rattle.schedule.specs.Timetable.{Timetable, timetable, routers, ports, share, WaveRule}
+use Rattle.schedule.specs.Timetable.{Timetable, timetable, routers, ports, share, OffsetsBelow, WaveRule}
 use Rattle.schedule.specs.Turns.{owner, gap}
 use Rattle.schedule.specs.Verdict.{verdict, answered, WithinLimits}
 
@@ -22,9 +23,15 @@ use Rattle.schedule.specs.Verdict.{verdict, answered, WithinLimits}
 abbrev pub timetable-of : Plan → Timetable
 timetable-of plan = timetable (plan .sizes) (take (plan .period) (plan .slots)) (take (ports (plan .sizes)) (plan .offsets))
 
--- built offsets keep the wave rule for every size within its limits
-abbrev pub BuiltKeepsWave : Sizes → ℕ → Type 0
-BuiltKeepsWave sizes period = WithinLimits sizes period → WaveRule sizes period (built sizes period)
+-- what is asked of a list of offsets: five for each router, each below the period, and the wave rule
+pub record OffsetsKeep (sizes : Sizes) (period : ℕ) (offsets : List ℕ) : Type 0 where
+  pub counted : length offsets ≡ ports sizes
+  pub below : OffsetsBelow period offsets
+  pub wave : WaveRule sizes period offsets
+
+-- built offsets keep it for every size within its limits
+abbrev pub BuiltKeep : Sizes → ℕ → Type 0
+BuiltKeep sizes period = WithinLimits sizes period → OffsetsKeep sizes period (built sizes period)
 
 -- one router, one domain, one place in a queue, one cycle for a hop and one slot
 abbrev pub smallest : Timetable

@@ -4,6 +4,6 @@ mod check;
 pub mod geometry;
 pub mod plan;
 pub mod planning;
+pub mod queries;
 pub mod refusal;
 pub mod sizes;
-pub mod timing;

@@ -5,7 +5,7 @@ ghost use lib.ListN.{length};
 ghost use Rattle.std.specs.Orderings.{Decides};
 ghost use Rattle.std.specs.Results.{isOk};
 ghost use Rattle.schedule.specs.Built.{built};
-ghost use Rattle.schedule.specs.Plans.{timetable-of, BuiltKeepsWave, smallest as smallest-timetable, outcome, replaced};
+ghost use Rattle.schedule.specs.Plans.{timetable-of, BuiltKeep, smallest as smallest-timetable, outcome, replaced};
 ghost use Rattle.schedule.specs.Timetable.{timetable, padded, ports as port-count};
 ghost use Rattle.schedule.specs.Verdict.{Keeps, Assigned};
 use super::build::built_offsets;
@@ -68,7 +68,7 @@ impl Plan {
         ensures left { λ r. ⌜ outcome r (timetable-of (now (self .exit)))
             ≡ replaced (timetable sizes (now (slots .entry)) (built sizes (length (now (slots .entry))))) (timetable-of (now (self .entry))) ⌝ }
         ensures accepted { λ r. ⌜ Decides (isOk r) (Assigned sizes (now (slots .entry))) ⌝ }
-        ensures wave { λ _. ⌜ BuiltKeepsWave sizes (length (now (slots .entry))) ⌝ }
+        ensures built_keep { λ _. ⌜ BuiltKeep sizes (length (now (slots .entry))) ⌝ }
     {
         check_sizes(sizes, slots.len())?;
         let ports = routers(sizes) as usize * 5;

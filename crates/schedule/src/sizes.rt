@@ -10,7 +10,7 @@ pub struct Sizes {
     pub height: u8,
     // domains that share the mesh
     pub domains: u8,
-    // places for packets in each virtual channel queue
+    // places for packets in each queue (a queue is one virtual channel: of one router side, for one domain)
     pub depth: u8,
     // cycles from leaving one router to being ready at the next
     pub hop: u8,

@@ -10,4 +10,5 @@ returns c =
     let fields = c .args .fields .now in
     let long : 9 ≤ length fields = search needs in
     plan-made fields _ _ _ _ _ _ (take-rest fields 9) long (c .in-Continue-slots .ensures tt)
-    (c .in-Continue-from-number .ensures tt .kind) (c .in-Continue-from-number-2 .ensures tt .kind) (c .in-Continue-from-number-3 .ensures tt .kind)
+    (c .in-Continue-from-number .ensures tt .kind) (c .in-Continue-from-number-2 .ensures tt .kind)
+    (c .in-Continue-from-number-3 .ensures tt .kind)

@@ -27,8 +27,9 @@ pub returns-in-Break-reserve : need.returns-in-Break-reserve
 returns-in-Break-reserve c =
     let p = err-from-errBy (c .from-residual .result) (c .from-residual .ensures .1) in
     let line = length-line (c .args .bytes .now) in
+    let out = vec-items (c .args .out .now) in
     record {
-      line = rw (p .1) (unwritten (vec-items (c .args .out .now)) (vec-items (c .reserve .last .self)) (c .in-Break-reserve .ensures tt .items));
+      line = rw (p .1) (unwritten out (vec-items (c .reserve .last .self)) (c .in-Break-reserve .ensures tt .items));
       succeeds = λ room. absurd (omega (arith, c .in-Break-reserve .ensures tt .cases, c .in-Some .ensures tt .1));
       spelling = one-spelling;
     }

@@ -12,7 +12,7 @@ use Rattle.schedule.specs.Timetable.{timetable}
 use Rattle.schedule.specs.Verdict.{answered, size-check, verdict, Keeps}
 use Rattle.schedule.proofs.Outcomes.{failed, left-old, sizes-first, decides-keeps}
 use Rattle.schedule.proofs.Padded.{length-padded, take-padded}
-use Rattle.schedule.proofs.Waves.{built-length, built-wave, decides-assigned}
+use Rattle.schedule.proofs.Waves.{built-length, built-offsets-keep, decides-assigned}
 use Rattle.schedule.proofs.plan.Plan.adopt_built.Needs as need
 
 pub returns-in-Break-check-sizes : need.returns-in-Break-check-sizes
@@ -27,7 +27,7 @@ returns-in-Break-check-sizes c =
     record {
       left = left-old t (timetable-of (c .args .self .now)) (verdict t) why refused;
       accepted = decides-assigned sizes slots _ (decides-keeps t (Err why) (ap answered (sym refused)));
-      wave = λ limits. built-wave sizes (length slots) (omega arith) (omega arith);
+      built-keep = built-offsets-keep sizes (length slots);
     }
 
 pub part-adopt-end : need.part-adopt-end
@@ -50,5 +50,5 @@ returns c =
       left = c .adopt .ensures .left ∙ ap (λ o. replaced (timetable sizes slots o) (timetable-of (c .args .self .now))) offsets;
       accepted = decides-assigned sizes slots (isOk (c .adopt .result))
           (subst (λ o. Decides (isOk (c .adopt .result)) (Keeps (timetable sizes slots o))) offsets (c .adopt .ensures .accepted));
-      wave = λ limits. built-wave sizes (length slots) (omega arith) (omega arith);
+      built-keep = built-offsets-keep sizes (length slots);
     }

@@ -4,15 +4,22 @@ use mathlib.Core.List.{List, [], _∷_}
 use Prim.Native.Nat.{ℕ}
 use lib.ListN.{replicate}
 use Rattle.std.specs.declared.option.Option.the-variants.{Some, None}
-use Rattle.schedule.specs.declared.refusal.Refusal.the-variants.{SizeOutOfLimits, WaveBroken}
+use Rattle.std.specs.declared.result.Result.the-variants.{Ok, Err}
+use Rattle.schedule.specs.declared.refusal.Refusal.the-variants.{SizeOutOfLimits, WaveBroken, QueueFull}
 use Rattle.schedule.specs.declared.sizes.Size.the-variants.{Period}
 use Rattle.schedule.specs.declared.sizes.Sizes.{Sizes}
 use Rattle.schedule.specs.Built.{built}
 use Rattle.schedule.specs.Mesh.{position}
+use Rattle.schedule.specs.Plans.{smallest}
 use Rattle.schedule.specs.Refusals.{number}
 use Rattle.schedule.specs.Timetable.{Timetable, timetable, offset}
 use Rattle.schedule.specs.Turns.{gap}
 use Rattle.schedule.specs.Verdict.{verdict}
+use Rattle.machine.specs.Calls.{Call, inject, step}
+use Rattle.machine.specs.Machine.{Machine}
+use Rattle.machine.specs.Promise.{bound}
+use Rattle.machine.specs.Runs.{Event, happens, new, next, whole}
+use Rattle.machine.specs.Tables.{Tables, at, no-packets, tables}
 use Rattle.rules.specs.Arbiters.{grant, fixed, rotating, order-list}
 use Rattle.rules.specs.Routes.{columns-first, rows-first}
 
@@ -27,6 +34,36 @@ standing-still = timetable (row-of 2 1) (0 ∷ 0 ∷ []) (replicate 10 0)
 -- one router and so many slots
 abbrev pub slots-of-one : ℕ → Timetable
 slots-of-one n = timetable (row-of 1 1) (replicate n 0) (built (row-of 1 1) n)
+
+-- the smallest plan, and the sample's: two routers in a row, two domains, queues of two places, hop 1, slots 0 and 1
+abbrev pub smallest-machine : Machine
+smallest-machine = record { timetable = smallest; choose = grant fixed; route = columns-first }
+
+abbrev pub sample-sizes : Sizes
+sample-sizes = record { width = 2; height = 1; domains = 2; depth = 2; hop = 1 }
+
+abbrev pub sample-machine : Machine
+sample-machine =
+    record { timetable = timetable sample-sizes (0 ∷ 1 ∷ []) (built sample-sizes 2); choose = grant rotating; route = columns-first }
+
+-- a new mesh over so many queue records and places
+abbrev pub new-of : Machine → ℕ → ℕ → Tables ℕ
+new-of m queues places =
+    new m (tables 0 (replicate queues no-packets) (replicate places (record { destination = 0; source = 0; ready = 0 })) (replicate places 0) (replicate queues 0))
+
+-- a call that is lent the tables as they are
+abbrev pub lent-whole : Call ℕ → Event ℕ
+lent-whole call = record { queues = whole []; places = whole []; payloads = whole []; words = whole []; call = call }
+
+-- an injection with payload 300, and a step into delivery tables for two routers
+abbrev pub injects : ℕ → ℕ → ℕ → Event ℕ
+injects router domain destination = lent-whole (inject router domain destination 300)
+
+abbrev pub step-event : Event ℕ
+step-event = lent-whole (step (replicate 2 (record { mark = 0; domain = 0; source = 0 })) (replicate 2 0))
+
+abbrev pub accepted-at-one : Tables ℕ
+accepted-at-one = next sample-machine (new-of sample-machine 20 40) (injects 1 0 1)
 
 pub record Worked : Type 0 where
   -- 5 slots and hop 3, in column 2 of row 0: the ports east and west have offsets 4 and 1
@@ -54,3 +91,14 @@ pub record Worked : Type 0 where
   pub longest-period : verdict (slots-of-one 64) ≡ None
   pub longer-period : verdict (slots-of-one 65) ≡ Some (SizeOutOfLimits Period)
   pub longer-number : number (SizeOutOfLimits Period) ≡ 2
+  -- one place in a queue: a second injection at one router and domain before any step finds it full, which is refusal 12
+  pub second-injection : happens smallest-machine (next smallest-machine (new-of smallest-machine 5 5) (injects 0 0 0)) (injects 0 0 0) .answer ≡ Err QueueFull
+  pub full-number : number QueueFull ≡ 12
+  -- the sample's plan, a packet of domain 0 for its own router 1, accepted in cycle 0: not delivered in cycle 0, delivered in cycle 1
+  pub not-yet : at (happens sample-machine accepted-at-one step-event .deliveries) 1 ≡ record { mark = 0; domain = 0; source = 0 } ∷ []
+  pub delivered : at (happens sample-machine (next sample-machine accepted-at-one step-event) step-event .deliveries) 1
+      ≡ record { mark = 1; domain = 0; source = 1 } ∷ []
+  pub delivered-payload : at (happens sample-machine (next sample-machine accepted-at-one step-event) step-event .delivered) 1 ≡ 300 ∷ []
+  pub delivered-in-1 : happens sample-machine (next sample-machine accepted-at-one step-event) step-event .answer ≡ Ok 1
+  -- and cycle 1 is the bound
+  pub bound-is-1 : bound sample-machine 0 0 [] ≡ 1

@@ -1,5 +1,5 @@
 mod Laws
-mod Links
+pub mod Links
 mod Setup
 mod Totals
 mod QueueNumbers

@@ -23,7 +23,6 @@ use Rattle.machine.proofs.OneCall.{answer-asked, next-intact, own-answered, ow
 use Rattle.machine.proofs.OnWay.{on-way-none, on-way-run}
 use Rattle.machine.proofs.OverRuns.{run-intact, run-view, held-seen}
 use Rattle.machine.proofs.OwnMachine.{answer-from, added, own-answer, own-next, nothing}
-use Rattle.machine.proofs.Paths.{path-is}
 use Rattle.machine.proofs.Soundness.{Intact}
 use Rattle.machine.proofs.Track.{AllOnWay}
 use Rattle.machine.proofs.Due.{Due, run-home}
@@ -97,9 +96,9 @@ module _ {P : Type 0} (c : Machine) (kept : Kept c) (t : Tables P) (opens : Open
       (fresh (now .cycle) (p .source) (p .destination) (p .payload)) v) =
       record {
         lone = alone c (p .domain) v (b .good) (b .empty) (p .source) (p .destination) (p .payload) (b .source-low) (b .destination-low);
-        due = ap (home c (p .domain) (p .source) _) same
-            ∙ ap (λ (ps : List ℕ). home c (p .domain) (p .source) ps (now .cycle))
-            (sym (path-is c (kept .lawful) (p .destination) (b .destination-low) path (p .source) (b .source-low) walk));
+        path = path;
+        walk = walk;
+        due = ap (home c (p .domain) (p .source) path) same;
       } in
       run-home c kept p (b .domain-low) (b .destination-low) h later (next c now e) ⊥ (λ f. f) (next-intact c kept now ok e)
       (subst (Due c kept p (b .domain-low) (b .destination-low) h) (sym (b .then)) due) (al .none-accepted) ra

@@ -1,4 +1,4 @@
--- Accepted is delivered and held.
+-- What a domain held before a cycle is what it is given and holds after it; so nothing is lost over its calls.
 use mathlib.Core.Path.{_≡_, refl, sym, ap, ap₂, _∙_, subst}
 use mathlib.Core.List.{List, [], _∷_, map}
 use mathlib.Core.Logic.{⊎-elim}
@@ -11,7 +11,8 @@ use Rattle.std.specs.Iters.{counting}
 use Rattle.std.specs.Joined.{joined}
 use Rattle.std.specs.shelf.Lists.{All}
 use Rattle.std.proofs.shelf.Lists.{length-append, length-map}
-use Rattle.std.proofs.shelf.Tests.{and-parts, and-from, and-left, and-right, eqb-true, eq-eqb, ne-eqb, cases-eq, cond-true, cond-false, cases-bool}
+use Rattle.std.proofs.shelf.Tests.{and-parts, and-from, and-left, and-right, eqb-true, eq-eqb}
+use Rattle.std.proofs.shelf.Tests.{ne-eqb, cases-eq, cond-true, cond-false, cases-bool}
 use Rattle.machine.specs.Machine.{Machine, routers, towards, beyond, opposite}
 use Rattle.machine.specs.Packets.{Packet, View, Arrival}
 use Rattle.machine.specs.Cycle.{after, delivers, arrival, sends, grants, winner, leaves, first-leaves, joins, room-beyond, stays}
@@ -21,7 +22,7 @@ use Rattle.std.specs.declared.result.Result.the-variants.{Ok, Err}
 use Rattle.machine.specs.Promise.{total, counted, count-in, count-out}
 use Rattle.machine.proofs.Totals.{total-ext, total-add, total-none, total-one, total-swap, total-both, total-front}
 use Rattle.machine.proofs.QueueNumbers.{inside-from}
-use Rattle.machine.proofs.Links.{beyond-back, beyond-cases, beyond-low}
+use Rattle.machine.proofs.Links.{beyond-back, beyond-cases, beyond-low, beyond-own}
 use Rattle.machine.proofs.Choices.{clash, grants-beyond, joins-from, joins-none, leaves-some}
 use Rattle.machine.proofs.Granted.{granted, goes, goes-stays}
 use Rattle.machine.proofs.Track.{OnWay, AllOnWay, on-way-router, after-queue}
@@ -103,7 +104,7 @@ module _ {P : Type 0} (c : Machine) (laws : Lawful c) (d : ℕ) (v : View P) (go
           (λ f e. clash (subst (λ (j : ℕ). leaves c d v r j ≡ true) e (granted c laws d v r k f .leaves)) l))
           ∙ sym (ap length (cond-false _ _ _ l))
 
-  pub ports-sides : (r : ℕ) → total 5 (λ p. length (sends c d v r p)) ≡ total 5 (λ i. length (goes c d v r i))
+  ports-sides : (r : ℕ) → total 5 (λ p. length (sends c d v r p)) ≡ total 5 (λ i. length (goes c d v r i))
   ports-sides r = total-both 5 5 (λ p i. row r p i) _ _ (λ p l. row-port r p) (λ i l. row-side r i)
 
   -- what goes out by a port joins the queue beside
@@ -156,7 +157,7 @@ module _ {P : Type 0} (c : Machine) (laws : Lawful c) (d : ℕ) (v : View P) (go
       ∙ sym (ap length (joins-from c d v r (opposite p) (q .0) (q .1)) ∙ length-map (sends c d v (q .0) (opposite (opposite p))) _))
       (beyond-cases c r (opposite p))
 
-  pub ports-queues : (p : ℕ) → p < 4 → opposite (opposite p) ≡ p → total (routers c) (λ r. length (sends c d v r p))
+  ports-queues : (p : ℕ) → p < 4 → opposite (opposite p) ≡ p → total (routers c) (λ r. length (sends c d v r p))
       ≡ total (routers c) (λ r. length (joins c d v r (opposite p)))
   ports-queues p h o = total-both (routers c) (routers c) (λ s r. fed p s r) _ _ (λ s l. fed-port p s h l) (λ r l. fed-side p r h o l)
 
@@ -196,7 +197,7 @@ module _ {P : Type 0} (c : Machine) (laws : Lawful c) (d : ℕ) (v : View P) (go
       ∙ total-ext (routers c) _ _ (λ r h. sym (ports-sides r)) ∙ total-swap (routers c) 5 (λ r p. length (sends c d v r p))
 
   pub balance : all-held c v ≡ length (delivers c d v) + all-held c (after c d v)
-  unfolding all-held total opposite beyond
+  unfolding all-held total opposite
   balance =
       let a : all-held c v ≡ total 5 (λ i. total (routers c) (λ r. length (v .queue r i))) =
       total-swap (routers c) 5 (λ r i. length (v .queue r i)) in
@@ -212,7 +213,7 @@ module _ {P : Type 0} (c : Machine) (laws : Lawful c) (d : ℕ) (v : View P) (go
       let q2 = ports-queues 2 (omega arith) refl in
       let q3 = ports-queues 3 (omega arith) refl in
       let q4 : total (routers c) (λ r. length (joins c d v r 4)) ≡ 0 =
-      total-none (routers c) _ (λ r l. ap length (joins-none c d v r 4 refl)) in
+      total-none (routers c) _ (λ r l. ap length (joins-none c d v r 4 (beyond-own c r))) in
       let po = goes-sends-all in
       let g = length-delivers in
       omega arith

@@ -12,7 +12,8 @@ use Rattle.schedule.specs.declared.refusal.Refusal.{Refusal}
 use Rattle.schedule.specs.declared.refusal.Refusal.the-variants.{TableTooShort, UnsoundTable, QueueFull}
 use Rattle.schedule.specs.Refusals.{number}
 use Rattle.schedule.specs.Verdict.{earliest}
-use Rattle.machine.specs.Calls.{Lengths, Answer, answer, check, long-enough, step-long-enough, injection-refusal, room-refusal, step-refusal}
+use Rattle.machine.specs.Calls.{Lengths, Answer, answer, check, long-enough}
+use Rattle.machine.specs.Calls.{step-long-enough, injection-refusal, room-refusal, step-refusal}
 use Rattle.machine.specs.Machine.{Machine, depth, domains, routers}
 use Rattle.machine.specs.Runs.{Asked, inject, room, step}
 use Rattle.machine.proofs.OwnMachine.{answer-from}

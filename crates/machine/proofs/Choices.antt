@@ -2,7 +2,7 @@
 use mathlib.Core.Path.{_≡_, refl, ap, _∙_}
 use mathlib.Core.List.{List, [], _∷_, map}
 use mathlib.Core.Logic.{⊎-elim}
-use mathlib.Core.Bool.{Bool, true, false, cond, _||_}
+use mathlib.Core.Bool.{Bool, true, false, cond, _&&_, _||_}
 use Prim.Native.Nat.{ℕ, _+_, _-_, _≤_, _<_}
 use native.Mathlib.Omega.{arith}
 use lib.Dec.{ltb, eqb}
@@ -12,7 +12,7 @@ use Rattle.std.specs.shelf.Lists.{All}
 use Rattle.std.proofs.shelf.Lists.{length-take, length-map, append-nil}
 use Rattle.std.proofs.shelf.Elements.{all-take, all-map, all-weaker}
 use Rattle.std.proofs.shelf.Tests.{and-parts, ltb-true, or-cases, eqb-true}
-use Rattle.machine.specs.Machine.{Machine, routers, beyond, opposite, depth, hop}
+use Rattle.machine.specs.Machine.{Machine, owner, routers, beyond, opposite, depth, hop}
 use Rattle.machine.specs.Packets.{Packet, View}
 use Rattle.machine.specs.Cycle.{first-leaves, leaves, sends, joins, ready-at, grants, room, room-beyond, winner, asking}
 use Rattle.machine.proofs.Links.{beyond-back, beyond-cases}
@@ -48,7 +48,7 @@ module _ {P : Type 0} (c : Machine) (d : ℕ) (v : View P) where
   cond-some true xs h = refl
   cond-some false xs h = absurd (omega arith)
 
-  pub sends-grants : (r p : ℕ) → 0 < length (sends c d v r p) → grants c d v r p ≡ true
+  sends-grants : (r p : ℕ) → 0 < length (sends c d v r p) → grants c d v r p ≡ true
   unfolding sends
   sends-grants r p h = cond-some (grants c d v r p) _ h
 
@@ -56,11 +56,12 @@ module _ {P : Type 0} (c : Machine) (d : ℕ) (v : View P) where
   pub grants-beyond : (s p : ℕ) → p < 4 → grants c d v s p ≡ true → room-beyond c v p (beyond c s p) ≡ true
   unfolding grants room
   grants-beyond s p h f =
-      let q : (eqb p 4 || room-beyond c v p (beyond c s p)) ≡ true = and-parts (ltb 0 (asking c v s p)) _ (and-parts _ _ f .1) .1 in
-      ⊎-elim (λ (k : eqb p 4 ≡ true). absurd (let e = eqb-true p 4 k in omega arith)) (λ (k : room-beyond c v p (beyond c s p) ≡ true). k)
-      (or-cases (eqb p 4) _ q)
+      let some : Bool = ltb 0 (asking c v s p) in
+      let there : Bool = room-beyond c v p (beyond c s p) in
+      let q = and-parts some (eqb p 4 || there) (and-parts (eqb (owner c s p (v .cycle)) d) (some && (eqb p 4 || there)) f .1) .1 in
+      ⊎-elim (λ (k : eqb p 4 ≡ true). absurd (let e = eqb-true p 4 k in omega arith)) (λ (k : there ≡ true). k) (or-cases (eqb p 4) there q)
 
-  pub grants-room : (s p r : ℕ) → p < 4 → beyond c s p ≡ r ∷ [] → grants c d v s p ≡ true → length (v .queue r (opposite p)) < depth c
+  grants-room : (s p r : ℕ) → p < 4 → beyond c s p ≡ r ∷ [] → grants c d v s p ≡ true → length (v .queue r (opposite p)) < depth c
   unfolding room-beyond
   grants-room s p r h e f = let k = grants-beyond s p h f in ltb-true _ _ (rw e at k)
 
@@ -93,7 +94,7 @@ module _ {P : Type 0} (c : Machine) (d : ℕ) (v : View P) where
   cond-all Q true xs a = all-take Q 1 xs a
   cond-all Q false xs a = tt
 
-  pub sends-all : (Q : Packet P → Type 0) → ((r i : ℕ) → All Q (v .queue r i)) → (r p : ℕ) → All Q (sends c d v r p)
+  sends-all : (Q : Packet P → Type 0) → ((r i : ℕ) → All Q (v .queue r i)) → (r p : ℕ) → All Q (sends c d v r p)
   unfolding sends
   sends-all Q a r p = cond-all Q (grants c d v r p) _ (a r (winner c v r p))
 

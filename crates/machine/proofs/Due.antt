@@ -2,7 +2,7 @@
 use mathlib.Core.Path.{_≡_, refl, sym, ap, ap₂, _∙_, subst}
 use mathlib.Core.List.{List, [], _∷_}
 use mathlib.Core.Logic.{_⊎_, inl, inr, ⊎-elim}
-use mathlib.Core.Bool.{Bool, true, false}
+use mathlib.Core.Bool.{true, false}
 use Prim.Native.Nat.{ℕ, _+_, _≤_, _<_, max}
 use native.Mathlib.Omega.{arith}
 use lib.Dec.{eqb}
@@ -11,22 +11,21 @@ use Rattle.std.proofs.shelf.Tests.{cases-lt, cases-bool}
 use Rattle.schedule.specs.declared.refusal.Refusal.{Refusal}
 use Rattle.machine.specs.Calls.{Answer, Lengths, if-accepted, fresh}
 use Rattle.machine.specs.Cycle.{after, delivers}
-use Rattle.machine.specs.Machine.{Machine, domains, hop, routers, owner, towards}
+use Rattle.machine.specs.Machine.{Machine, beyond, domains, hop, routers, owner, towards}
 use Rattle.machine.specs.Packets.{View}
-use Rattle.machine.specs.Promise.{Sometime, OnlyAfter, Before, is-step, injects, Ran, Accepts, Injected, Delivers, Path, turn-from, home}
+use Rattle.machine.specs.Promise.{Sometime, OnlyAfter, Before, is-step, injects, Ran, Accepts, Injected, Delivers, Path, home}
 use Rattle.machine.specs.Runs.{Event, Asked, inject, room, step, asked, happens, next, concerns, deliveries}
 use Rattle.machine.specs.Tables.{Tables, view}
 use Rattle.machine.proofs.Checks.{accepted-step}
 use Rattle.machine.proofs.Home.{side-of-path, at-turn, past-turn, home-same, home-next, home-ge}
-use Rattle.machine.proofs.Laws.{Kept, distance}
+use Rattle.machine.proofs.Laws.{Kept}
+use Rattle.machine.proofs.Links.{beyond-low}
 use Rattle.machine.proofs.Lone as lone
 use Rattle.machine.proofs.Lone.{Lone, Fate, fate, Onward, In, still-held}
 use Rattle.machine.proofs.Marks.{arrives, delivered, undelivered}
 use Rattle.machine.proofs.OneCall.{next-intact, other-view, own-answered, own-view, own-delivered}
 use Rattle.machine.proofs.OwnMachine.{answer-from, added, own-answer, own-next, own-deliveries}
-use Rattle.machine.proofs.Paths.{path-is, path-there}
 use Rattle.machine.proofs.Soundness.{Intact}
-use Rattle.machine.proofs.Ways.{path-of, way, way-home, way-on}
 use Rattle.machine.proofs.Choices.{clash}
 
 unlike : {A : Type 0} (n : ℕ) (why : Refusal) → _≡_ {A = Answer} (Ok n) (Err why) → A
@@ -37,38 +36,27 @@ same-ok n k e = cc
 
 module _ {P : Type 0} (c : Machine) (kept : Kept c) (p : Injected P) (hd : p .domain < domains c) (he : p .destination < routers c)
     (h : ℕ) where
-  -- when the packet is home from a router on
-  abbrev pub H : ℕ → ℕ → ℕ
-  H a w = home c (p .domain) a (path-of c (distance c a (p .destination)) a (p .destination)) w
-
-  path-from : (a : ℕ) → a < routers c → Path c (p .destination) a (path-of c (distance c a (p .destination)) a (p .destination))
-  path-from a ha =
-      let q = path-there c (kept .lawful) (p .destination) he a ha in
-      subst (Path c (p .destination) a) (path-is c (kept .lawful) (p .destination) he (q .0) a ha (q .1)) (q .1)
-
-  side-first : (a : ℕ) (ps : List ℕ) → Path c (p .destination) a ps → side-of-path ps ≡ towards c a (p .destination)
-  unfolding side-of-path Path
-  side-first a [] q = sym q
-  side-first a (q ∷ qs) w = sym (w .0)
-
-  -- alone, and home in cycle h
+  -- alone on its path, and home in cycle h
   pub record Due (v : View P) : Type 0 where
     pub lone : Lone c (p .domain) (p .source) (p .destination) (p .payload) v
-    pub due : H (lone .at) (max (v .cycle) (lone .y .ready)) ≡ h
+    pub path : List ℕ
+    pub walk : Path c (p .destination) (lone .at) path
+    pub due : home c (p .domain) (lone .at) path (max (v .cycle) (lone .y .ready)) ≡ h
 
   due-ge : (v : View P) → Due v → v .cycle ≤ h
   due-ge v u =
       let l = u .lone in
-      omega (
-        arith,
-        u .due,
-        home-ge c (kept .timed) (p .domain) hd (p .destination) _ (l .at) (max (v .cycle) (l .y .ready)) (path-from (l .at) (l .low)),
-      )
+      let late : ℕ = max (v .cycle) (l .y .ready) in
+      omega (arith, u .due, home-ge c (kept .timed) (p .domain) hd (p .destination) (u .path) (l .at) late (u .walk))
+
+  side-first : (a : ℕ) (path : List ℕ) → Path c (p .destination) a path → side-of-path path ≡ towards c a (p .destination)
+  unfolding side-of-path Path
+  side-first a [] w = sym w
+  side-first a (side ∷ sides) w = sym (w .0)
 
   -- a cycle delivers it in cycle h, or delivers nothing and leaves it due
   abbrev Step : View P → Type 0
-  Step v = ((v .cycle ≡ h) × In (arrives p (v .cycle)) (delivers c (p .domain) v))
-      ⊎ ((delivers c (p .domain) v ≡ []) × Due (after c (p .domain) v))
+  Step v = ((v .cycle ≡ h) × In (arrives p (v .cycle)) (delivers c (p .domain) v)) ⊎ ((delivers c (p .domain) v ≡ []) × Due (after c (p .domain) v))
 
   module _ (v : View P) (u : Due v) where
     abbrev it : Lone c (p .domain) (p .source) (p .destination) (p .payload) v
@@ -77,44 +65,63 @@ module _ {P : Type 0} (c : Machine) (kept : Kept c) (p : Injected P) (hd : p .do
     abbrev S : ℕ → ℕ → Type 0
     S a w = Onward c (kept .lawful) (kept .depth-some) (p .domain) (p .source) (p .destination) he (p .payload) v a w
 
-    now : it .y .ready ≤ v .cycle → H (it .at) (v .cycle) ≡ h
-    now k = ap (H (it .at)) (omega arith) ∙ u .due
+    -- home from where it stands, by a path, starting in a cycle
+    abbrev H : List ℕ → ℕ → ℕ
+    H path cycle = home c (p .domain) (it .at) path cycle
 
-    on : (a w : ℕ) (s : S a w) → H a (max (v .cycle + 1) w) ≡ h → Step v
+    on : (a ready : ℕ) → S a ready → (path : List ℕ) → Path c (p .destination) a path
+        → home c (p .domain) a path (max (v .cycle + 1) ready) ≡ h → Step v
     unfolding after
-    on a w s q =
+    on a ready s path walk q =
         inr (
           still-held c (kept .lawful) (kept .depth-some) (p .domain) (p .source) (p .destination) he (p .payload) v it (s .lone),
-          record { lone = s .lone; due = ap₂ (λ (b x : ℕ). H b (max (v .cycle + 1) x)) (s .at) (s .ready) ∙ q },
+          record {
+            lone = s .lone;
+            path = path;
+            walk = subst (λ (b : ℕ). Path c (p .destination) b path) (sym (s .at)) walk;
+            due = ap₂ (λ (b x : ℕ). home c (p .domain) b path (max (v .cycle + 1) x)) (s .at) (s .ready) ∙ q;
+          },
         )
 
-    by-fate : Fate c (kept .lawful) (kept .depth-some) (p .domain) (p .source) (p .destination) he (p .payload) v it → Step v
-    unfolding way home
-    by-fate (lone.arrives q o k i) =
-        let side : towards c (it .at) (p .destination) ≡ 4 =
-        ap (λ (a : ℕ). towards c a (p .destination)) q ∙ kept .lawful .arrived (p .destination) he in
-        let turn : owner c (it .at) 4 (v .cycle) ≡ p .domain = ap (λ (b : ℕ). owner c (it .at) b (v .cycle)) (sym side) ∙ o in
-        let w : H (it .at) (v .cycle) ≡ turn-from c (p .domain) (it .at) 4 (v .cycle) =
-        ap (λ (ps : List ℕ). home c (p .domain) (it .at) ps (v .cycle)) (way-home c (kept .lawful) (p .destination) he (it .at) q) in
-        inl (sym (at-turn c (kept .timed) (p .domain) hd (it .at) 4 (v .cycle) turn) ∙ (sym w ∙ now k), i)
-    by-fate (lone.goes-on s o k b n f) =
+    now : it .y .ready ≤ v .cycle → H (u .path) (v .cycle) ≡ h
+    now k = ap (H (u .path)) (omega arith) ∙ u .due
+
+    arrived : it .at ≡ p .destination → owner c (it .at) (towards c (it .at) (p .destination)) (v .cycle) ≡ p .domain
+        → (path : List ℕ) → Path c (p .destination) (it .at) path → H path (v .cycle) ≡ v .cycle
+    unfolding Path home
+    arrived q o [] walk =
+        at-turn c (kept .timed) (p .domain) hd (it .at) 4 (v .cycle) (ap (λ (b : ℕ). owner c (it .at) b (v .cycle)) (sym walk) ∙ o)
+    arrived q o (side ∷ sides) walk =
+        absurd (walk .1 (sym (walk .0) ∙ (ap (λ (a : ℕ). towards c a (p .destination)) q ∙ kept .lawful .arrived (p .destination) he)))
+
+    gone-on : (s : ℕ) → owner c (it .at) (towards c (it .at) (p .destination)) (v .cycle) ≡ p .domain
+        → beyond c (it .at) (towards c (it .at) (p .destination)) ≡ s ∷ [] → S s (v .cycle + hop c)
+        → (path : List ℕ) → Path c (p .destination) (it .at) path → H path (v .cycle) ≡ h → Step v
+    unfolding Path
+    gone-on s o b f [] walk due = absurd (let low = beyond-low c (it .at) _ s b in omega arith)
+    gone-on s o b f (side ∷ sides) (named, other, (s′, b′, rest)) due =
         let some = kept .hop-some in
-        let side : ℕ = towards c (it .at) (p .destination) in
-        let rest : List ℕ = path-of c (distance c s (p .destination)) s (p .destination) in
-        let w : H (it .at) (v .cycle) ≡ H s (v .cycle + hop c) =
-        ap (λ (ps : List ℕ). home c (p .domain) (it .at) ps (v .cycle)) (way-on c (kept .lawful) (p .destination) he (it .at) s b n)
-        ∙ (home-next c (kept .timed) (p .domain) hd side rest (it .at) s (v .cycle) b
-        ∙ ap (λ (a : ℕ). home c (p .domain) s rest (a + hop c)) (at-turn c (kept .timed) (p .domain) hd (it .at) side (v .cycle) o)) in
-        on s (v .cycle + hop c) f (ap (H s) (omega arith) ∙ (sym w ∙ now k))
-    by-fate (lone.waits n f) = on (it .at) (it .y .ready) f (⊎-elim
-        (λ (k : v .cycle < it .y .ready). ap (H (it .at)) (omega arith) ∙ u .due)
+        let one : s′ ∷ [] ≡ s ∷ [] = sym b′ ∙ (ap (beyond c (it .at)) (sym named) ∙ b) in
+        let same : s′ ≡ s = cc in
+        let turn : owner c (it .at) side (v .cycle) ≡ p .domain = ap (λ (x : ℕ). owner c (it .at) x (v .cycle)) (sym named) ∙ o in
+        let next : H (side ∷ sides) (v .cycle) ≡ home c (p .domain) s′ sides (v .cycle + hop c) =
+        home-next c (kept .timed) (p .domain) hd side sides (it .at) s′ (v .cycle) b′
+        ∙ ap (λ (x : ℕ). home c (p .domain) s′ sides (x + hop c)) (at-turn c (kept .timed) (p .domain) hd (it .at) side (v .cycle) turn) in
+        let later : max (v .cycle + 1) (v .cycle + hop c) ≡ v .cycle + hop c = omega arith in
+        on s (v .cycle + hop c) f sides (subst (λ (x : ℕ). Path c (p .destination) x sides) same rest)
+        (ap₂ (λ (x y : ℕ). home c (p .domain) x sides y) (sym same) later ∙ (sym next ∙ due))
+
+    by-fate : Fate c (kept .lawful) (kept .depth-some) (p .domain) (p .source) (p .destination) he (p .payload) v it → Step v
+    by-fate (lone.arrives q o k i) = inl (sym (arrived q o (u .path) (u .walk)) ∙ now k, i)
+    by-fate (lone.goes-on s o k b n f) = gone-on s o b f (u .path) (u .walk) (now k)
+    by-fate (lone.waits n f) = on (it .at) (it .y .ready) f (u .path) (u .walk) (⊎-elim
+        (λ (k : v .cycle < it .y .ready). ap (H (u .path)) (omega arith) ∙ u .due)
         (λ (k : it .y .ready ≤ v .cycle).
-        let ps : List ℕ = path-of c (distance c (it .at) (p .destination)) (it .at) (p .destination) in
-        let side = side-first (it .at) ps (path-from (it .at) (it .low)) in
-        let other : owner c (it .at) (side-of-path ps) (v .cycle) ≡ p .domain → ⊥ =
-        λ o. n (ap (λ (b : ℕ). owner c (it .at) b (v .cycle)) (sym side) ∙ o) k in
-        ap (H (it .at)) (omega arith) ∙ (sym (home-same c (kept .timed) (p .domain) hd ps (it .at) (v .cycle) (v .cycle + 1)
-        (past-turn c (kept .timed) (p .domain) hd (it .at) (side-of-path ps) (v .cycle) other)) ∙ now k))
+        let side : ℕ = side-of-path (u .path) in
+        let other : owner c (it .at) side (v .cycle) ≡ p .domain → ⊥ =
+        λ o. n (ap (λ (b : ℕ). owner c (it .at) b (v .cycle)) (sym (side-first (it .at) (u .path) (u .walk))) ∙ o) k in
+        ap (H (u .path)) (omega arith) ∙ (sym (home-same c (kept .timed) (p .domain) hd (u .path) (it .at) (v .cycle) (v .cycle + 1)
+        (past-turn c (kept .timed) (p .domain) hd (it .at) side (v .cycle) other)) ∙ now k))
         (cases-lt (v .cycle) (it .y .ready)))
 
     due-step : Step v

@@ -6,7 +6,8 @@ use Prim.Native.Nat.{ℕ, zero, suc, _+_, _≤_, _<_}
 use native.Mathlib.Nat.{zero-add}
 use native.Mathlib.Omega.{arith}
 use lib.ListN.{length, getD, take, drop}
-use Rattle.std.proofs.shelf.Lists.{take-at, take-append-le, take-append-drop, length-take, length-append, take-all, append-nil, append-assoc}
+use Rattle.std.proofs.shelf.Lists.{take-at, take-append-le, take-append-drop, length-take}
+use Rattle.std.proofs.shelf.Lists.{length-append, take-all, append-nil, append-assoc}
 use Rattle.std.proofs.shelf.Tests.{cases-lt}
 use Rattle.machine.specs.Moves.{edit}
 use Rattle.machine.specs.Runs.{Loan, whole, front, lent, back, lent-length}

@@ -101,7 +101,7 @@ module _ (slots : List ℕ) (d : ℕ) (some : 0 < length slots) where
   on-turn k h zero = (0, omega arith, ap (turn slots) (omega arith) ∙ h)
   on-turn k h (suc m) = let r = step-turn (k + m) (on-turn k h m) in (r .0, r .1, ap (turn slots) (omega arith) ∙ r .2)
 
-  pub wait : (k : ℕ) → k < length slots → turn slots k ≡ d → (x : ℕ) → (w : ℕ) × (w ≤ gap slots d - 1) × (turn slots (x + w) ≡ d)
+  wait : (k : ℕ) → k < length slots → turn slots k ≡ d → (x : ℕ) → (w : ℕ) × (w ≤ gap slots d - 1) × (turn slots (x + w) ≡ d)
   wait k l h x =
       let r = on-turn k h (x + length slots - k) in
       (r .0, r .1, sym (turn-round (x + r .0)) ∙ (ap (turn slots) (omega arith) ∙ r .2))

@@ -1,8 +1,8 @@
--- What goes out by a port that fires.
+-- A port that grants sends the first packet of the queue that wins it, and a queue loses just what the ports send.
 use mathlib.Core.Path.{_≡_, refl, sym, ap, _∙_, subst}
 use mathlib.Core.List.{List, [], _∷_, _++_, map}
 use mathlib.Core.Bool.{Bool, true, false, cond, _&&_}
-use Prim.Native.Nat.{ℕ, zero, suc, _+_, _≤_, _<_}
+use Prim.Native.Nat.{ℕ, _≤_, _<_}
 use native.Mathlib.Omega.{arith}
 use lib.Dec.{leb, ltb, eqb}
 use lib.ListN.{length, take, drop}
@@ -10,68 +10,10 @@ use Rattle.std.proofs.shelf.Lists.{append-assoc, take-append-drop}
 use Rattle.std.proofs.shelf.Tests.{leb-true, and-parts, and-from, ltb-true, eqb-true, eq-eqb, cond-true, cond-false}
 use Rattle.machine.specs.Machine.{Machine, towards}
 use Rattle.machine.specs.Packets.{Packet, View}
-use Rattle.machine.specs.Cycle.{bit, asking, asks, first-leaves, leaves, ready-at, sends, stays, grants, winner}
-use Rattle.rules.specs.Arbiters.{asks as holds}
+use Rattle.machine.specs.Cycle.{asking, asks, first-leaves, leaves, ready-at, sends, stays, grants, winner}
 use Rattle.machine.proofs.Choices.{clash, leaves-some}
 use Rattle.machine.proofs.Laws.{Lawful}
-
-bits-tell : (a b c d e : Bool) → let n = bit a 1 + (bit b 2 + (bit c 4 + (bit d 8 + bit e 16))) in
-    (holds n 0 ≡ a) × (holds n 1 ≡ b) × (holds n 2 ≡ c) × (holds n 3 ≡ d) × (holds n 4 ≡ e)
-unfolding bit
-bits-tell true true true true true = (refl, refl, refl, refl, refl)
-bits-tell true true true true false = (refl, refl, refl, refl, refl)
-bits-tell true true true false true = (refl, refl, refl, refl, refl)
-bits-tell true true true false false = (refl, refl, refl, refl, refl)
-bits-tell true true false true true = (refl, refl, refl, refl, refl)
-bits-tell true true false true false = (refl, refl, refl, refl, refl)
-bits-tell true true false false true = (refl, refl, refl, refl, refl)
-bits-tell true true false false false = (refl, refl, refl, refl, refl)
-bits-tell true false true true true = (refl, refl, refl, refl, refl)
-bits-tell true false true true false = (refl, refl, refl, refl, refl)
-bits-tell true false true false true = (refl, refl, refl, refl, refl)
-bits-tell true false true false false = (refl, refl, refl, refl, refl)
-bits-tell true false false true true = (refl, refl, refl, refl, refl)
-bits-tell true false false true false = (refl, refl, refl, refl, refl)
-bits-tell true false false false true = (refl, refl, refl, refl, refl)
-bits-tell true false false false false = (refl, refl, refl, refl, refl)
-bits-tell false true true true true = (refl, refl, refl, refl, refl)
-bits-tell false true true true false = (refl, refl, refl, refl, refl)
-bits-tell false true true false true = (refl, refl, refl, refl, refl)
-bits-tell false true true false false = (refl, refl, refl, refl, refl)
-bits-tell false true false true true = (refl, refl, refl, refl, refl)
-bits-tell false true false true false = (refl, refl, refl, refl, refl)
-bits-tell false true false false true = (refl, refl, refl, refl, refl)
-bits-tell false true false false false = (refl, refl, refl, refl, refl)
-bits-tell false false true true true = (refl, refl, refl, refl, refl)
-bits-tell false false true true false = (refl, refl, refl, refl, refl)
-bits-tell false false true false true = (refl, refl, refl, refl, refl)
-bits-tell false false true false false = (refl, refl, refl, refl, refl)
-bits-tell false false false true true = (refl, refl, refl, refl, refl)
-bits-tell false false false true false = (refl, refl, refl, refl, refl)
-bits-tell false false false false true = (refl, refl, refl, refl, refl)
-bits-tell false false false false false = (refl, refl, refl, refl, refl)
-
-bits-low : (a b c d e : Bool) → bit a 1 + (bit b 2 + (bit c 4 + (bit d 8 + bit e 16))) < 32
-unfolding bit
-bits-low a b c d e = omega (arith, low a 1, low b 2, low c 4, low d 8, low e 16)
-  where
-    low : (x : Bool) (n : ℕ) → bit x n ≤ n
-    low true n = omega arith
-    low false n = omega arith
-
-module _ {P : Type 0} (c : Machine) (v : View P) (r p : ℕ) where
-  pub asking-tells : (i : ℕ) → i < 5 → holds (asking c v r p) i ≡ asks c (v .cycle) r p (v .queue r i)
-  unfolding asking
-  asking-tells zero h = bits-tell _ _ _ _ _ .0
-  asking-tells (suc zero) h = bits-tell _ _ _ _ _ .1
-  asking-tells (suc (suc zero)) h = bits-tell _ _ _ _ _ .2
-  asking-tells (suc (suc (suc zero))) h = bits-tell _ _ _ _ _ .3
-  asking-tells (suc (suc (suc (suc zero)))) h = bits-tell _ _ _ _ _ .4
-  asking-tells (suc (suc (suc (suc (suc i))))) h = absurd (omega arith)
-
-  asking-low : asking c v r p < 32
-  unfolding asking
-  asking-low = bits-low _ _ _ _ _
+use Rattle.machine.proofs.Sides.{asking-tells, asking-low}
 
 -- the packet that goes, and where it stood
 pub record Granted {P : Type 0} (c : Machine) (d : ℕ) (v : View P) (r p : ℕ) : Type 0 where
@@ -144,7 +86,7 @@ module _ {P : Type 0} (s e : ℕ) where
   flow-ready t [] = refl
   flow-ready t (x ∷ xs) = ap (λ (l : List P). cond (between s e x) (x .payload ∷ []) [] ++ l) (flow-ready t xs)
 
-  pub flow-none : (x : Packet P) → between s e x ≡ false → flow s e (x ∷ []) ≡ []
+  flow-none : (x : Packet P) → between s e x ≡ false → flow s e (x ∷ []) ≡ []
   unfolding flow
   flow-none x h = rw h
 

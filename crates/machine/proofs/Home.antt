@@ -1,4 +1,4 @@
--- The delivery time of a packet that meets no other.
+-- When a packet that meets no other is home: not earlier for a later start, and by the bound.
 use mathlib.Core.Path.{_≡_, refl, sym, ap, _∙_, subst}
 use mathlib.Core.Logic.{⊎-elim}
 use mathlib.Core.List.{List, [], _∷_}
@@ -26,7 +26,7 @@ extra p (q ∷ qs) = cond (eqb p q) 0 1
 
 module _ (c : Machine) (timed : Timed c) (d : ℕ) (hd : d < domains c) where
   module _ (r p : ℕ) where
-    pub turn-at : (t : ℕ) → (owner c r p (turn-from c d r p t) ≡ d) × (t ≤ turn-from c d r p t)
+    turn-at : (t : ℕ) → (owner c r p (turn-from c d r p t) ≡ d) × (t ≤ turn-from c d r p t)
         × (turn-from c d r p t < t + length (c .timetable .slots))
     unfolding turn-from
     turn-at t =
@@ -34,7 +34,7 @@ module _ (c : Machine) (timed : Timed c) (d : ℕ) (hd : d < domains c) where
         let f = found (λ j. eqb (owner c r p (t + j)) d) (length (c .timetable .slots)) (w .0) (w .2) (eq-eqb _ _ (w .3)) in
         (eqb-true _ _ (f .0), omega arith, omega (arith, f .1, w .2))
 
-    pub least : (t u : ℕ) → t ≤ u → owner c r p u ≡ d → turn-from c d r p t ≤ u
+    least : (t u : ℕ) → t ≤ u → owner c r p u ≡ d → turn-from c d r p t ≤ u
     unfolding turn-from
     least t u h o = ⊎-elim
         (λ (l : u < t + length (c .timetable .slots)).
@@ -54,10 +54,10 @@ module _ (c : Machine) (timed : Timed c) (d : ℕ) (hd : d < domains c) where
         absurd (n (subst (λ (u : ℕ). owner c r p u ≡ d) e (a .0)))) (cases-lt t (turn-from c d r p t)) in
         omega (arith, least (t + 1) (turn-from c d r p t) later (a .0), least t (turn-from c d r p (t + 1)) (omega (arith, b .1)) (b .0))
 
-    pub turn-mono : (t u : ℕ) → t ≤ u → turn-from c d r p t ≤ turn-from c d r p u
+    turn-mono : (t u : ℕ) → t ≤ u → turn-from c d r p t ≤ turn-from c d r p u
     turn-mono t u h = let b = turn-at u in least t (turn-from c d r p u) (omega (arith, b .1)) (b .0)
 
-    pub turn-near : (t : ℕ) → turn-from c d r p t ≤ t + (gap (c .timetable .slots) d - 1)
+    turn-near : (t : ℕ) → turn-from c d r p t ≤ t + (gap (c .timetable .slots) d - 1)
     turn-near t = let w = turn-comes c timed d hd r p t in omega (arith, least t (t + w .0) (omega arith) (w .3), w .1)
 
   pub home-mono : (ps : List ℕ) (r t u : ℕ) → t ≤ u → home c d r ps t ≤ home c d r ps u

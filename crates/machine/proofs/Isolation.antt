@@ -20,7 +20,8 @@ use Rattle.machine.proofs.Choices.{InLimits}
 use Rattle.machine.proofs.Laws.{Kept}
 use Rattle.machine.proofs.Moved.{length-packets}
 use Rattle.machine.proofs.OwnMachine.{answer-from, added, own-answer, own-next, if-both, if-same}
-use Rattle.machine.proofs.QueueNumbers.{inside-parts, inside-from, queue-number-lt, domain-queue-number, side-queue-number, router-queue-number}
+use Rattle.machine.proofs.QueueNumbers.{inside-parts, inside-from, queue-number-lt}
+use Rattle.machine.proofs.QueueNumbers.{domain-queue-number, side-queue-number, router-queue-number}
 use Rattle.machine.proofs.Soundness.{Intact, sound-from, can-cycle, can-inject, intact-inject, intact-cycle}
 use Rattle.machine.proofs.Views.{same-view, queue-in, queue-out, word-in, word-out, queue-moved, words-moved, cycle-seen}
 

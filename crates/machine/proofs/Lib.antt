@@ -4,6 +4,7 @@ mod Setup
 mod Totals
 mod QueueNumbers
 mod Choices
+mod Sides
 mod Granted
 mod Track
 mod OwnMachine
@@ -12,7 +13,6 @@ mod OnWay
 mod Order
 mod Balance
 mod Gap
-mod Ways
 mod Paths
 mod Home
 mod Lone

@@ -1,4 +1,4 @@
--- A packet alone.
+-- A packet alone in its domain: it goes as soon as it is ready and its port's turn has come, and else waits.
 use mathlib.Core.Path.{_≡_, refl, sym, ap, ap₂, _∙_, subst}
 use mathlib.Core.List.{List, [], _∷_, _++_, map}
 use mathlib.Core.Logic.{_⊎_, inl, inr, ⊎-elim}
@@ -10,20 +10,21 @@ use lib.ListN.{length, drop}
 use Rattle.std.specs.Iters.{counting}
 use Rattle.std.specs.Joined.{joined}
 use Rattle.std.proofs.shelf.Lists.{nil-from-length}
-use Rattle.std.proofs.shelf.Tests.{and-parts, and-from, eqb-true, eq-eqb, cases-eq, cases-lt, cond-false, cases-bool, or-left, or-right, lt-ltb, le-leb}
+use Rattle.std.proofs.shelf.Tests.{and-parts, and-from, eqb-true, eq-eqb, cases-eq, cases-lt}
+use Rattle.std.proofs.shelf.Tests.{cond-false, cases-bool, or-left, or-right, lt-ltb, le-leb}
 use Rattle.machine.specs.Machine.{Machine, routers, towards, beyond, opposite, owner, depth, hop}
 use Rattle.machine.specs.Packets.{Packet, View}
-use Rattle.machine.specs.Cycle.{after, delivers, arrival, ready-at, sends, grants, leaves, joins, room, room-beyond, asking, asks, stays}
-use Rattle.rules.specs.Arbiters.{asks as holds}
+use Rattle.machine.specs.Cycle.{after, delivers, arrival, ready-at, sends, grants, leaves, joins, room, room-beyond, asks, stays}
 use Rattle.machine.specs.Promise.{total}
 use Rattle.machine.proofs.Totals.{total-le, total-two}
 use Rattle.machine.proofs.QueueNumbers.{inside-from}
 use Rattle.machine.proofs.Links.{beyond-back}
 use Rattle.machine.proofs.Choices.{clash, joins-from}
-use Rattle.machine.proofs.Granted.{granted, asking-tells}
+use Rattle.machine.proofs.Granted.{granted}
 use Rattle.machine.proofs.Track.{AllOnWay, on-way-after, after-queue}
 use Rattle.machine.proofs.Balance.{all-held, balance, leaves-by}
 use Rattle.machine.proofs.Laws.{Lawful, distance}
+use Rattle.machine.proofs.Sides.{some-asks}
 
 -- where one is held, no other queue holds any
 module _ {P : Type 0} (c : Machine) (v : View P) where
@@ -35,7 +36,7 @@ module _ {P : Type 0} (c : Machine) (v : View P) where
     total-le (routers c) a (λ r. total 5 (λ i. length (v .queue r i))) ha,
   )
 
-  pub lone-only : all-held c v ≡ 1 → (a j b i : ℕ) → a < routers c → j < 5 → b < routers c → i < 5 → 0 < length (v .queue a j)
+  lone-only : all-held c v ≡ 1 → (a j b i : ℕ) → a < routers c → j < 5 → b < routers c → i < 5 → 0 < length (v .queue a j)
       → 0 < length (v .queue b i) → (a ≡ b) × (j ≡ i)
   unfolding all-held
   lone-only one a j b i ha hj hb hi ka kb =
@@ -56,19 +57,6 @@ module _ {P : Type 0} (c : Machine) (v : View P) where
               ap (λ (r : ℕ). length (v .queue r j)) same,
             ))) (cases-eq j i),
       )
-
-zero-holds : (i : ℕ) → i < 5 → holds 0 i ≡ false
-zero-holds zero h = refl
-zero-holds (suc zero) h = refl
-zero-holds (suc (suc zero)) h = refl
-zero-holds (suc (suc (suc zero))) h = refl
-zero-holds (suc (suc (suc (suc zero)))) h = refl
-zero-holds (suc (suc (suc (suc (suc i))))) h = absurd (omega arith)
-
-asked-for : {P : Type 0} (c : Machine) (v : View P) (r p i : ℕ) → i < 5 → asks c (v .cycle) r p (v .queue r i) ≡ true → 0 < asking c v r p
-asked-for c v r p i h a = ⊎-elim (λ (k : 0 < asking c v r p). k)
-    (λ (k : asking c v r p ≤ 0). let z : asking c v r p ≡ 0 = omega arith in
-    clash (ap (λ (n : ℕ). holds n i) (sym z) ∙ asking-tells c v r p i h ∙ a) (zero-holds i h)) (cases-lt 0 (asking c v r p))
 
 -- an entry of a list
 unfoldable pub In : {X : Type 0} → X → List X → Type 0
@@ -127,7 +115,7 @@ module _ {P : Type 0} (c : Machine) (laws : Lawful c) (depth-some : 0 < depth c)
   unfolding grants asks room room-beyond
   lone-granted v l o k =
       let p : ℕ = towards c (l .at) e in
-      and-from _ _ (eq-eqb _ _ o) (and-from _ _ (lt-ltb _ _ (asked-for c v (l .at) p (l .side) (l .five) its-turn)) space)
+      and-from _ _ (eq-eqb _ _ o) (and-from _ _ (lt-ltb _ _ (some-asks c v (l .at) p (l .side) (l .five) its-turn)) space)
     where
       its-turn : asks c (v .cycle) (l .at) (towards c (l .at) e) (v .queue (l .at) (l .side)) ≡ true
       its-turn = ap (asks c (v .cycle) (l .at) (towards c (l .at) e)) (l .queue)

@@ -14,7 +14,8 @@ use Rattle.std.proofs.shelf.Tests.{cases-bool, and-parts, leb-true, eqb-true, c
 use Rattle.schedule.specs.declared.refusal.Refusal.{Refusal}
 use Rattle.machine.specs.declared.tables.Delivery.{Delivery}
 use Rattle.machine.specs.declared.tables.Queue.{Queue}
-use Rattle.machine.specs.Calls.{Lengths, lengths, long-enough, Answer, if-accepted, Call, inject, room, step, own-queue, answer-to, Outcome, accepted, unchanged, outcome, fresh}
+use Rattle.machine.specs.Calls.{Lengths, lengths, long-enough, Answer, if-accepted, Call, inject, room}
+use Rattle.machine.specs.Calls.{step, own-queue, answer-to, Outcome, accepted, unchanged, outcome, fresh}
 use Rattle.machine.specs.Cycle.{sends, grants, arrival, delivers}
 use Rattle.machine.specs.Machine.{Machine, depth, domains, routers, queues, queue-number, owner}
 use Rattle.machine.specs.Moves.{Moves, edit, moved, cycle-moves, injection-moves, handed-over, record-of, payload-beside}
@@ -251,7 +252,7 @@ module _ {P : Type 0} (c : Machine) (kept : Kept c) (t : Tables P) (exact : Exac
       ap (λ (o : Outcome P). take-back t (o .tables)) (when-refused c (lend e t) call why (answer-same call ∙ h))
       ∙ (ap (take-back t) (tables-unchanged c (lend e t) _ call) ∙ (back-same ∙ sym (then-refused (asked-by c e call) why h)))
 
-  pub next-asked : next c t e ≡ then c t (asked c e)
+  next-asked : next c t e ≡ then c t (asked c e)
   unfolding next happens asked
   next-asked = tables-same (e .call) _ refl
 

@@ -1,4 +1,4 @@
--- In order: what is held on the way is what was accepted and not yet delivered.
+-- What is underway from a source to a destination is what was accepted and has not come home, in that order.
 use mathlib.Core.Path.{_≡_, refl, sym, ap, ap₂, _∙_, subst}
 use mathlib.Core.List.{List, [], _∷_, _++_, map}
 use mathlib.Core.Logic.{⊎-elim}
@@ -72,7 +72,7 @@ module _ {P : Type 0} (c : Machine) (laws : Lawful c) (s e : ℕ) (hs : s < rout
         (λ (q : a ≡ e → ⊥). ap₂ _++_ (at-other a (sends c d v a 4) (ne-eqb a e q)) (from-on (a + 1) n (omega arith) (omega arith)))
         (cases-eq a e)
 
-    pub came-delivers : came s e (delivers c d v) ≡ flow s e (sends c d v e 4)
+    came-delivers : came s e (delivers c d v) ≡ flow s e (sends c d v e 4)
     unfolding delivers here
     came-delivers = from-on 0 (routers c) (omega arith) (omega arith)
 
@@ -83,7 +83,7 @@ module _ {P : Type 0} (c : Machine) (laws : Lawful c) (s e : ℕ) (hs : s < rout
     new-flow = ⊎-elim (λ (q : s ≡ r). rw (eq-eqb s r q, eq-eqb r s (sym q)) (append-nil _))
         (λ (q : s ≡ r → ⊥). rw (ne-eqb s r q, ne-eqb r s (λ w. q (sym w)))) (cases-eq s r)
 
-    pub underway-added : (k : ℕ) → k ≤ distance c s e → underway c s e (added c r (fresh (v .cycle) r f x) v) k
+    underway-added : (k : ℕ) → k ≤ distance c s e → underway c s e (added c r (fresh (v .cycle) r f x) v) k
         ≡ underway c s e v k ++ cond (eqb r s && eqb f e) (x ∷ []) []
     unfolding underway added
     underway-added zero h = ap (flow s e) (cond-true _ _ _ (inside-from c s 4 hs (omega arith))) ∙ flow-append s e (v .queue s 4) _
@@ -127,7 +127,7 @@ module _ {P : Type 0} (c : Machine) (laws : Lawful c) (s e : ℕ) (hs : s < rout
     one-call v good (room l r named) = append-nil _
     one-call v good (step l) = one-step v good (own-answer c v (step l))
 
-    pub order-run : (v : View P) → AllOnWay c v → (calls : List (Asked P))
+    order-run : (v : View P) → AllOnWay c v → (calls : List (Asked P))
         → queued v ++ payloads-in s e (own-notes c d v calls)
         ≡ payloads-out s e (own-notes c d v calls) ++ queued (own-run c d v calls)
     unfolding own-notes own-run payloads-in payloads-out

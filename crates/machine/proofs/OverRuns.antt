@@ -1,4 +1,4 @@
--- A run, as one domain has it, is a run of the domain's own machine; so runs are isolated, in order, lose nothing and never meet unsound tables.
+-- A run, as one domain has it, is a run of its own machine: isolated, in order, with nothing lost and no table unsound.
 use mathlib.Core.Path.{_≡_, refl, sym, ap, ap₂, _∙_}
 use mathlib.Core.List.{List, [], _∷_, _++_}
 use mathlib.Core.Bool.{Bool, true, false}
@@ -80,9 +80,6 @@ module _ {P : Type 0} (c : Machine) (kept : Kept c) (t : Tables P) (opens : Open
       → getD (take (queues c) (edit 0 (queues c) (λ _ _. x) xs)) q z ≡ x
   filled x z xs q l h = getD-take (queues c) _ q z h ∙ getD-edit xs (queues c) q (λ _ _. x) z h (omega arith)
 
-  front-long : {X : Type 0} (n : ℕ) (xs : List X) → n ≤ length xs → length (take n xs) ≡ n
-  front-long n xs l = length-take-le n xs l
-
   new-queue : (q : ℕ) → q < queues c → queue-at (new c t) q ≡ no-packets
   unfolding new opened queue-at
   new-queue q h = filled no-packets no-packets (t .queues) q (long .0) h
@@ -126,7 +123,7 @@ module _ {P : Type 0} (c : Machine) (kept : Kept c) (t : Tables P) (opens : Open
     pub run-intact : Intact c (run c (new c t) es)
     run-intact = intact-on c kept es (new c t) new-intact
 
-    pub run-notes : (d : ℕ) → d < domains c → notes c d (new c t) es ≡ own-notes c d nothing (calls-of c d es)
+    run-notes : (d : ℕ) → d < domains c → notes c d (new c t) es ≡ own-notes c d nothing (calls-of c d es)
     run-notes d hd = notes-on c kept d hd es (new c t) new-intact ∙ ap (λ (u : View P). own-notes c d u (calls-of c d es)) (new-view d hd)
 
     pub run-view : (d : ℕ) → d < domains c → view c (run c (new c t) es) d ≡ own-run c d nothing (calls-of c d es)

@@ -58,7 +58,7 @@ count-fits b n (suc k) true h f l = let e : n < b = f (omega arith) in omega ari
 count-fits b n (suc k) false h f l = let e : n < b = f (omega arith) in omega arith
 
 module _ {P : Type 0} (c : Machine) (kept : Kept c) (t : Tables P) (ok : Intact c t) where
-  pub view-within : (d : ℕ) → d < domains c → (r i : ℕ) → All (InLimits c (t .cycle)) (view c t d .queue r i)
+  view-within : (d : ℕ) → d < domains c → (r i : ℕ) → All (InLimits c (t .cycle)) (view c t d .queue r i)
   view-within d hd r i = go (inside c r i) refl
     where
       go : (b : Bool) → inside c r i ≡ b → All (InLimits c (t .cycle)) (view c t d .queue r i)
@@ -78,7 +78,7 @@ module _ {P : Type 0} (c : Machine) (kept : Kept c) (t : Tables P) (ok : Intact 
       go false = all
 
   -- after any possible moves
-  pub intact-moved : (s : Moves P) (cycle : ℕ) → t .cycle ≤ cycle → ((q : ℕ) → q < queues c → Can c s t q)
+  intact-moved : (s : Moves P) (cycle : ℕ) → t .cycle ≤ cycle → ((q : ℕ) → q < queues c → Can c s t q)
       → ((q : ℕ) → q < queues c → All (InLimits c cycle) (s .joining q)) → Intact c (moved c s cycle t)
   unfolding queue-after moved
   intact-moved s cycle le can on = record {

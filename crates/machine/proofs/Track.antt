@@ -15,7 +15,7 @@ use Rattle.machine.specs.Machine.{Machine, routers, towards, beyond, opposite,
 use Rattle.machine.specs.Packets.{Packet, View}
 use Rattle.machine.specs.Cycle.{after, leaves, joins, sends, ready-at, grants, winner, stays}
 use Rattle.machine.proofs.QueueNumbers.{inside-parts, inside-from}
-use Rattle.machine.proofs.Links.{beyond-back, beyond-cases}
+use Rattle.machine.proofs.Links.{beyond-back, beyond-cases, beyond-own}
 use Rattle.machine.proofs.Choices.{joins-from, joins-none}
 use Rattle.machine.proofs.Granted.{granted, goes, goes-stays, between, flow, flow-append, flow-ready, goes-sends}
 use Rattle.machine.proofs.Laws.{Lawful, distance}
@@ -30,9 +30,9 @@ track c s e zero = (s, 4)
 track c s e (suc k) = step-on (beyond c (track c s e k .0) (towards c (track c s e k .0) e)) (towards c (track c s e k .0) e)
     (track c s e k)
 
-pub hops-home : (c : Machine) (e : ℕ) → distance c e e ≡ 0
+distance-home : (c : Machine) (e : ℕ) → distance c e e ≡ 0
 unfolding distance
-hops-home c e = omega arith
+distance-home c e = omega arith
 
 module _ (c : Machine) (laws : Lawful c) (s e : ℕ) (hs : s < routers c) (he : e < routers c) where
   -- place k of the way
@@ -54,7 +54,7 @@ module _ (c : Machine) (laws : Lawful c) (s e : ℕ) (hs : s < routers c) (he : 
   next-on k on h =
       let r : ℕ = track c s e k .0 in
       let p : ℕ = towards c r e in
-      let apart : r ≡ e → ⊥ = λ q. omega (arith, on .left, ap (λ (x : ℕ). distance c x e) q, hops-home c e) in
+      let apart : r ≡ e → ⊥ = λ q. omega (arith, on .left, ap (λ (x : ℕ). distance c x e) q, distance-home c e) in
       let n = laws .nearer r e (on .router) he apart in
       let b = beyond-back c r p (n .0) (on .router) (n .1) in
       let t : track c s e (suc k) ≡ (n .0, opposite p) = ap (λ (l : List ℕ). step-on l p (track c s e k)) (n .1) in
@@ -67,7 +67,7 @@ module _ (c : Machine) (laws : Lawful c) (s e : ℕ) (hs : s < routers c) (he : 
         nearer = ap (λ (a : ℕ × ℕ). distance c (a .0) e + 1) t ∙ n .2;
       }
 
-  pub on-track : (k : ℕ) → k ≤ distance c s e → On k
+  on-track : (k : ℕ) → k ≤ distance c s e → On k
   unfolding track
   on-track zero h = record { router = hs; side = omega arith; left = omega arith }
   on-track (suc k) h = let o = on-track k (omega arith) in let n = next-on k o (omega arith) in
@@ -207,11 +207,11 @@ module _ {P : Type 0} (c : Machine) (laws : Lawful c) (d : ℕ) (v : View P) (go
       ap (flow s e) (joins-from c d v _ _ _ (n .back)) ∙ flow-ready s e _ _
       ∙ ap (λ (p : ℕ). flow s e (sends c d v (track c s e k .0) p)) (n .way) ∙ sym (on-out k (omega arith))
 
-  pub underway-after : (k : ℕ) → k ≤ distance c s e → underway c s e v k
+  underway-after : (k : ℕ) → k ≤ distance c s e → underway c s e v k
       ≡ flow s e (goes c d v (track c s e k .0) (track c s e k .1)) ++ underway c s e (after c d v) k
-  unfolding underway track beyond flow
+  unfolding underway track flow
   underway-after zero h = sym (append-nil (flow s e (v .queue s 4))) ∙ ap
-      (λ (l : List (Packet P)). flow s e (v .queue s 4) ++ flow s e l) (sym (joins-none c d v s 4 refl))
+      (λ (l : List (Packet P)). flow s e (v .queue s 4) ++ flow s e l) (sym (joins-none c d v s 4 (beyond-own c s)))
       ∙ split s 4 (inside-from c s 4 hs (omega arith))
   underway-after (suc k) h =
       let o = on-track c laws s e hs he (suc k) h in
@@ -226,7 +226,7 @@ module _ {P : Type 0} (c : Machine) (laws : Lawful c) (d : ℕ) (v : View P) (go
       (flow s e (after c d v .queue (track c s e (suc k) .0) (track c s e (suc k) .1))) R
 
   -- the end of the way
-  pub track-end : track c s e (distance c s e) .0 ≡ e
+  track-end : track c s e (distance c s e) .0 ≡ e
   track-end =
       let r : ℕ = track c s e (distance c s e) .0 in
       let o = on-track c laws s e hs he (distance c s e) (omega arith) in

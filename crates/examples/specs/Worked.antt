@@ -17,7 +17,7 @@ use Rattle.schedule.specs.Turns.{gap}
 use Rattle.schedule.specs.Verdict.{verdict}
 use Rattle.machine.specs.Calls.{Call, inject, step}
 use Rattle.machine.specs.Machine.{Machine}
-use Rattle.machine.specs.Promise.{bound}
+use Rattle.machine.specs.Promise.{Alone, Injected, Opens, Path, bound}
 use Rattle.machine.specs.Runs.{Event, happens, new, next, whole}
 use Rattle.machine.specs.Tables.{Tables, at, no-packets, tables}
 use Rattle.rules.specs.Arbiters.{grant, fixed, rotating, order-list}
@@ -46,10 +46,14 @@ abbrev pub sample-machine : Machine
 sample-machine =
     record { timetable = timetable sample-sizes (0 ∷ 1 ∷ []) (built sample-sizes 2); choose = grant rotating; route = columns-first }
 
--- a new mesh over so many queue records and places
+-- tables with so many queue records and places
+abbrev pub clean-tables : ℕ → ℕ → Tables ℕ
+clean-tables queues places =
+    tables 0 (replicate queues no-packets) (replicate places (record { destination = 0; source = 0; ready = 0 })) (replicate places 0) (replicate queues 0)
+
+-- a new mesh over them
 abbrev pub new-of : Machine → ℕ → ℕ → Tables ℕ
-new-of m queues places =
-    new m (tables 0 (replicate queues no-packets) (replicate places (record { destination = 0; source = 0; ready = 0 })) (replicate places 0) (replicate queues 0))
+new-of m queues places = new m (clean-tables queues places)
 
 -- a call that is lent the tables as they are
 abbrev pub lent-whole : Call ℕ → Event ℕ
@@ -61,6 +65,10 @@ injects router domain destination = lent-whole (inject router domain destination
 
 abbrev pub step-event : Event ℕ
 step-event = lent-whole (step (replicate 2 (record { mark = 0; domain = 0; source = 0 })) (replicate 2 0))
+
+-- the packet that router 1 sends to itself
+abbrev pub own-packet : Injected ℕ
+own-packet = record { domain = 0; source = 1; destination = 1; payload = 300 }
 
 abbrev pub accepted-at-one : Tables ℕ
 accepted-at-one = next sample-machine (new-of sample-machine 20 40) (injects 1 0 1)
@@ -102,3 +110,7 @@ pub record Worked : Type 0 where
   pub delivered-in-1 : happens sample-machine (next sample-machine accepted-at-one step-event) step-event .answer ≡ Ok 1
   -- and cycle 1 is the bound
   pub bound-is-1 : bound sample-machine 0 0 [] ≡ 1
+  -- what the promise over runs asks of its runs can be met: tables that open, and that packet, alone until it is delivered
+  pub opens : Opens sample-machine (clean-tables 20 40)
+  pub path : Path sample-machine 1 1 []
+  pub alone : Alone sample-machine own-packet (new-of sample-machine 20 40) (injects 1 0 1) (step-event ∷ step-event ∷ [])

@@ -1,4 +1,6 @@
 // Worked examples of plans, arbiters and route rules: proved of the definitions, and tried on the code.
+#![tactic(auto)]
+
 #[cfg(test)]
 mod calls;
 pub mod proved;

@@ -1,4 +1,6 @@
 // The text that the programs read and write: lines of lowercase hexadecimal, one frame a line.
+#![tactic(auto)]
+
 pub mod choices;
 pub mod frame;
 pub mod given;

@@ -1,4 +1,6 @@
 // The mesh of routers over tables that a caller lends.
+#![tactic(auto)]
+
 mod apply;
 mod ask;
 mod asking;

@@ -1,4 +1,6 @@
 // Reads plan frames, one a line, and prints for each whether it may go into the chip, and the timetable or the reason.
+#![tactic(auto)]
+
 mod report;
 mod words;
 

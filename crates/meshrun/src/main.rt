@@ -1,4 +1,6 @@
 // Reads frames, one a line, runs them on a mesh, and prints deliveries and refusals.
+#![tactic(auto)]
+
 use runner::run::run;
 use std::io::{Read, Write};
 

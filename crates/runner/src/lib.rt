@@ -1,4 +1,6 @@
 // A mesh run by frames: from a block of input to the lines that are printed for it.
+#![tactic(auto)]
+
 mod handling;
 mod payload;
 pub mod run;

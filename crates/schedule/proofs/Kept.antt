@@ -1,17 +1,16 @@
 -- A timetable passes every check exactly when it keeps the limits, the slots, the offsets and the wave rule.
-use Rattle.std.proofs.Common.{◌≡◌, ℕ, ◌+◌, ◌*◌, ◌/◌, ◌%◌, ◌<◌, ◌≤◌, Bool, true, false, cond, not, ◌&&◌, eqb, ltb, leb, List, [], ◌∷◌, length, get_or, Some, None, Option, sym, refl, ap, ◌∙◌, arith}
+use Rattle.std.proofs.Common.{◌≡◌, ℕ, ◌+◌, ◌*◌, ◌/◌, ◌%◌, ◌<◌, Bool, true, false, not, ◌&&◌, eqb, leb, List, ◌∷◌, length, get_or, Some, None, Option, refl, ap, arith}
 use Rattle.std.proofs.lemmas.Nat.{div-mul-add, mod-mul-add, div_below, mod_below}
-use Rattle.std.proofs.lemmas.Bool.{leb-true, leb-false, le-leb, lt-leb, eqb-true, eqb-false, eq-eqb, ne_eqb, and_parts, and_from, not-false, cases_eq}
-use Rattle.std.proofs.lemmas.Bool.Decides.{nat_tests}
+use Rattle.std.proofs.lemmas.Bool.{leb-true, leb-false, le-leb, lt-leb, eqb-true, eqb-false, eq-eqb, ne_eqb, and_parts, and_from, not-false}
 use Rattle.schedule.specs.declared.refusal.Refusal.{Refusal}
-use Rattle.schedule.specs.declared.refusal.Refusal.TheVariants.{SizeOutOfLimits, OffsetCount, UnknownDomain, DomainWithoutSlot, OffsetTooLarge, WaveBroken}
+use Rattle.schedule.specs.declared.refusal.Refusal.TheVariants.{UnknownDomain, DomainWithoutSlot, OffsetTooLarge, WaveBroken}
 use Rattle.schedule.specs.declared.sizes.Size.{Size}
 use Rattle.schedule.specs.declared.sizes.Size.TheVariants.{Width, Height, Domains, Depth, Hop, Period}
 use Rattle.schedule.specs.declared.sizes.Sizes.{Sizes}
 use Rattle.schedule.specs.Limits.{largest}
 use Rattle.schedule.specs.Mesh.{neighbour_of}
-use Rattle.schedule.specs.Timetable.{Timetable, routers, ports, offset, share, From1To, Link, SlotsNameDomains, DomainsHaveSlots, OffsetsBelow, WaveRule}
-use Rattle.schedule.specs.Verdict.{earliest, limit, size_check, count_check, slot_check, domain_check, offset_check, breaks_at, breaks, wave_check, verdict, WithinLimits, Assigned, Keeps}
+use Rattle.schedule.specs.Timetable.{Timetable, routers, ports, offset, share, From1To, Link, WaveRule}
+use Rattle.schedule.specs.Verdict.{earliest, limit, size_check, count_check, slot_check, domain_check, offset_check, breaks_at, breaks, wave_check, verdict, WithinLimits, Keeps}
 use Rattle.schedule.proofs.Refuse.{refused_none, none_fails}
 
 -- no refusal at the head of a chain of checks, and none in the rest

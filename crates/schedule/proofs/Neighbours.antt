@@ -1,7 +1,7 @@
 -- Neighbours: they lie in the mesh, one step from the corner of column 0 and row 0 nearer or farther, and their numbers tell their places.
-use Rattle.std.proofs.Common.{◌≡◌, ℕ, zero, suc, ◌+◌, ◌-◌, ◌*◌, ◌/◌, ◌%◌, ◌<◌, ◌≤◌, Bool, true, false, cond, ltb, Some, None, Option, sym, refl, ap, ◌∙◌, subst, mul_comm, arith}
+use Rattle.std.proofs.Common.{◌≡◌, ℕ, zero, suc, ◌+◌, ◌-◌, ◌*◌, ◌<◌, Bool, true, false, cond, ltb, Some, None, Option, refl, subst, mul_comm, arith}
 use Rattle.std.specs.Option.{option_map}
-use Rattle.std.proofs.lemmas.Nat.{div-mul-add, mod-mul-add, div_below, mod_below, div-add-mod'}
+use Rattle.std.proofs.lemmas.Nat.{div-mul-add, mod-mul-add, div_below, mod_below}
 use Rattle.std.proofs.lemmas.Bool.{ltb-true}
 use Rattle.schedule.specs.declared.geometry.Position.{Position}
 use Rattle.schedule.specs.Mesh.{position, position_of, router_at, Within, neighbour}

@@ -1,5 +1,5 @@
 -- What a plan call leaves, by its answer.
-use Rattle.std.proofs.Common.{◌≡◌, ℕ, true, length, is_ok, Some, None, Ok, Err, Decides, Option, Result, sym, refl, ap, ◌∙◌, arith}
+use Rattle.std.proofs.Common.{◌≡◌, ℕ, length, is_ok, Some, None, Ok, Err, Decides, Option, Result, sym, refl, ap, ◌∙◌, arith}
 use Rattle.schedule.specs.declared.refusal.Refusal.{Refusal}
 use Rattle.schedule.specs.Plans.{outcome, replaced_by}
 use Rattle.schedule.specs.Timetable.{Timetable}

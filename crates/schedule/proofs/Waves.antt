@@ -1,7 +1,6 @@
 -- Built offsets keep the wave rule, whatever the sizes.
-use Rattle.std.proofs.Common.{◌≡◌, ℕ, zero, suc, ◌+◌, ◌-◌, ◌*◌, ◌/◌, ◌%◌, ◌<◌, ◌≤◌, Bool, List, map, length, get_or, Decides, sym, refl, ap, ◌∙◌, subst, mul-add, arith}
+use Rattle.std.proofs.Common.{◌≡◌, ℕ, zero, suc, ◌+◌, ◌-◌, ◌*◌, ◌/◌, ◌%◌, ◌<◌, Bool, List, length, get_or, Decides, sym, refl, ap, ◌∙◌, subst, mul-add, arith}
 use native.Mathlib.Nat.{mod-mod, mod-add-mod, add-mul-mod_self_right}
-use Rattle.std.specs.List.{range_with_len}
 use Rattle.std.proofs.lemmas.Nat.{div-mul-add, mod-mul-add, mod_below, mul-add-lt, div-add-mod'}
 use Rattle.std.proofs.lemmas.List.FromFn.{length-map-range_with_len, get_or-map-range_with_len}
 use Rattle.schedule.specs.declared.geometry.Position.{Position}
@@ -9,7 +8,7 @@ use Rattle.schedule.specs.declared.sizes.Sizes.{Sizes}
 use Rattle.schedule.specs.Built.{remainder, minus_remainder, cycles_from_corner, built_offset, built_entry, built}
 use Rattle.schedule.specs.Mesh.{position_of, router_at, neighbour}
 use Rattle.schedule.specs.Plans.{BuiltKeep}
-use Rattle.schedule.specs.Timetable.{timetable, routers, ports, offset, From1To, Link, OffsetsBelow, WaveRule}
+use Rattle.schedule.specs.Timetable.{timetable, routers, ports, offset, OffsetsBelow, WaveRule}
 use Rattle.schedule.specs.Verdict.{Assigned, Keeps}
 use Rattle.schedule.proofs.Neighbours.{Step, placed, neighbour_step, position_router, position_within}
 

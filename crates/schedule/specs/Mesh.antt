@@ -1,5 +1,5 @@
 -- The mesh: where routers stand, which router lies on each side of another, and how far two are apart.
-use Rattle.std.specs.Prelude.{◌≡◌, ℕ, zero, suc, ◌+◌, ◌-◌, ◌*◌, ◌/◌, ◌%◌, ◌<◌, cond, Some, None, Option, nat_lt}
+use Rattle.std.specs.Prelude.{ℕ, zero, suc, ◌+◌, ◌-◌, ◌*◌, ◌/◌, ◌%◌, ◌<◌, cond, Some, None, Option, nat_lt}
 use Rattle.std.specs.Option.{option_map}
 use Rattle.schedule.specs.declared.geometry.Position.{Position}
 

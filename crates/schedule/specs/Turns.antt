@@ -1,5 +1,5 @@
 -- Whose turn it is, and how long a domain waits for its next.
-use Rattle.std.specs.Prelude.{ℕ, ◌+◌, ◌%◌, Bool, cond, List, length, ◌==◌, nat_eq, slice_index}
+use Rattle.std.specs.Prelude.{ℕ, ◌+◌, ◌%◌, cond, List, length, ◌==◌, nat_eq, slice_index}
 use Rattle.schedule.specs.Search.{first, largest}
 use Rattle.schedule.specs.Timetable.{Timetable, offset}
 

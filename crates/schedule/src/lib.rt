@@ -1,4 +1,6 @@
 // Plans for a wave-scheduled mesh: which domain may use which router port in which cycle.
+#![tactic(auto)]
+
 mod build;
 mod check;
 pub mod geometry;

@@ -7,7 +7,7 @@ use Rattle.frames.proofs.frame.frame_of.Goals as goal
 pub returns-in-1 : goal.returns-in-1
 returns-in-1 c =
     let some : 1 ≤ length c.args.bytes.now = search rules in
-    c.bare-plan.ensures
+    c.bare_plan.ensures
     ∙ sym (ap decoded (parted c.args.bytes.now _ 1 some (take_rest c.args.bytes.now 1) c.in-1.is))
 
 pub returns-in-2 : goal.returns-in-2

@@ -9,7 +9,7 @@ use Rattle.frames.proofs.lines.cut_line.Goals as goal
 pub returns-then-place-block : goal.returns-then-place-block
 returns-then-place-block c =
     let block = c.args.block.now in
-    let place : c.feed-place-place.result ≡ feed_place block = c.feed-place-place.ensures.place in
+    let place : c.feed_place-place.result ≡ feed_place block = c.feed_place-place.ensures.place in
     let inside : feed_place block < length block = omega arith in
     let e = line_ended block inside in
     record {
@@ -18,26 +18,26 @@ returns-then-place-block c =
       shorter = λ _. rw (place, add-one, take_rest block, length-drop) (omega arith);
     }
 
-pub returns-then-is-empty : goal.returns-then-is-empty
-returns-then-is-empty c =
+pub returns-then-is_empty : goal.returns-then-is_empty
+returns-then-is_empty c =
     let block = c.args.block.now in
-    let place : c.feed-place-place.result ≡ feed_place block = c.feed-place-place.ensures.place in
-    let whole : length block ≤ c.feed-place-place.result - 0 = omega arith in
+    let place : c.feed_place-place.result ≡ feed_place block = c.feed_place-place.ensures.place in
+    let whole : length block ≤ c.feed_place-place.result - 0 = omega arith in
     let past : length block ≤ feed_place block = omega arith in
-    let empty : eqb (length block) 0 ≡ true = rw (take_all) at (sym c.if-is-empty.ensures) in
+    let empty : eqb (length block) 0 ≡ true = rw (take_all) at (sym c.if-is_empty.ensures) in
     record {
       line = rw (first_unended block past, empty) refl;
       left = nothing_left block _ place c.if-place-block.false;
       shorter = λ e. absurd (false≢true e);
     }
 
-pub returns-else-is-empty : goal.returns-else-is-empty
-returns-else-is-empty c =
+pub returns-else-is_empty : goal.returns-else-is_empty
+returns-else-is_empty c =
     let block = c.args.block.now in
-    let place : c.feed-place-place.result ≡ feed_place block = c.feed-place-place.ensures.place in
-    let whole : length block ≤ c.feed-place-place.result - 0 = omega arith in
+    let place : c.feed_place-place.result ≡ feed_place block = c.feed_place-place.ensures.place in
+    let whole : length block ≤ c.feed_place-place.result - 0 = omega arith in
     let past : length block ≤ feed_place block = omega arith in
-    let held : eqb (length block) 0 ≡ false = rw (take_all) at (sym c.if-is-empty.ensures) in
+    let held : eqb (length block) 0 ≡ false = rw (take_all) at (sym c.if-is_empty.ensures) in
     record {
       line = rw (take_all, first_unended block past, held) refl;
       left = nothing_left block _ place c.if-place-block.false;

@@ -10,16 +10,16 @@ loop-place-preserved c =
     let i = c.loop-place.place in
     let e : feed_place (drop i block) ≡ cond (eqb (get_or block i 0) 10) 0 (suc (feed_place (drop (i + 1) block))) =
     at_drop_more feed_place block i 0 c.loop-place-test.true in
-    let other = c.if-ends-line.ensures in
+    let other = c.if-ends_line.ensures in
     grind (arith, nat_tests)
 
-pub returns-then-ends-line : goal.returns-then-ends-line
-returns-then-ends-line c =
+pub returns-then-ends_line : goal.returns-then-ends_line
+returns-then-ends_line c =
     let block = c.args.block.now in
     let i = c.loop-place.place in
     let e : feed_place (drop i block) ≡ cond (eqb (get_or block i 0) 10) 0 (suc (feed_place (drop (i + 1) block))) =
     at_drop_more feed_place block i 0 c.loop-place-test.true in
-    let this = c.if-ends-line.ensures in
+    let this = c.if-ends_line.ensures in
     record { place = grind (arith, nat_tests); within = omega arith }
 
 pub returns : goal.returns

@@ -1,4 +1,4 @@
-use Rattle.std.proofs.Common.{◌≡◌, ◌+◌, ◌*◌, ◌<◌, ◌≤◌, [], ◌∷◌, ◌++◌, map, set, sym, ap, ◌∙◌, arith}
+use Rattle.std.proofs.Common.{◌≡◌, ◌*◌, map, set, sym, ap, ◌∙◌, arith}
 use Rattle.std.specs.List.{range_with_len}
 use Rattle.std.proofs.lemmas.Nat.{mul-le}
 use Rattle.std.proofs.lemmas.List.FromFn.{length-map-range_with_len, map-range_with_len_more}
@@ -17,7 +17,7 @@ loop-k-preserved c =
     let k = c.loop-k.k in
     let entry = built_entry c.args.sizes c.args.period in
     let few = mul-le c.args.sizes.width c.args.sizes.height 8 8 (omega arith) (omega arith) in
-    ap (set c.loop-k.offsets k) c.built-entry.ensures
+    ap (set c.loop-k.offsets k) c.built_entry.ensures
     ∙ (filled_more 320 k (entry k) c.loop-k.offsets (map entry (range_with_len 0 k)) c.loop-k.invariant (length-map-range_with_len entry 0 k) (omega arith)
     ∙ ap (padded 320) (sym (map-range_with_len_more entry 0 k k (omega arith))))
 

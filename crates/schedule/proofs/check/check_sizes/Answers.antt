@@ -3,25 +3,25 @@ use Rattle.std.proofs.Common.{rules}
 use Rattle.schedule.specs.Verdict.{size_check}
 use Rattle.schedule.proofs.check.check_sizes.Goals as goal
 
-pub returns-in-err-check-limit : goal.returns-in-err-check-limit
+pub returns-in_err-check_limit : goal.returns-in_err-check_limit
 unfolding size_check
-returns-in-err-check-limit c = search rules
+returns-in_err-check_limit c = search rules
 
-pub returns-in-err-check-limit-2 : goal.returns-in-err-check-limit-2
+pub returns-in_err-check_limit-2 : goal.returns-in_err-check_limit-2
 unfolding size_check
-returns-in-err-check-limit-2 c = search rules
+returns-in_err-check_limit-2 c = search rules
 
-pub returns-in-err-check-limit-3 : goal.returns-in-err-check-limit-3
+pub returns-in_err-check_limit-3 : goal.returns-in_err-check_limit-3
 unfolding size_check
-returns-in-err-check-limit-3 c = search rules
+returns-in_err-check_limit-3 c = search rules
 
-pub returns-in-err-check-limit-4 : goal.returns-in-err-check-limit-4
+pub returns-in_err-check_limit-4 : goal.returns-in_err-check_limit-4
 unfolding size_check
-returns-in-err-check-limit-4 c = search rules
+returns-in_err-check_limit-4 c = search rules
 
-pub returns-in-err-check-limit-5 : goal.returns-in-err-check-limit-5
+pub returns-in_err-check_limit-5 : goal.returns-in_err-check_limit-5
 unfolding size_check
-returns-in-err-check-limit-5 c = search rules
+returns-in_err-check_limit-5 c = search rules
 
 pub returns : goal.returns
 unfolding size_check

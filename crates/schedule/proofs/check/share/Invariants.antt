@@ -1,5 +1,5 @@
 -- So many of the slots looked at so far name the domain.
-use Rattle.std.proofs.Common.{◌≡◌, ◌≤◌, eqb, take}
+use Rattle.std.proofs.Common.{◌≡◌, ◌≤◌, take}
 use Rattle.schedule.specs.Timetable.{share}
 use Rattle.schedule.proofs.check.share.Given as goal
 

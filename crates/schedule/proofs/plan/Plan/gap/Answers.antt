@@ -1,5 +1,4 @@
-use Rattle.std.proofs.Common.{◌≡◌, suc, ◌+◌, ◌<◌, max, true, false, eqb, get_or, take, sym, ap, ◌∙◌, add-one, arith}
-use native.Mathlib.Nat.{max-zero}
+use Rattle.std.proofs.Common.{◌≡◌, max, get_or, take, sym, ◌∙◌, add-one, arith}
 use Rattle.std.proofs.lemmas.List.{get_or-take}
 use Rattle.std.proofs.lemmas.Bool.{eq-eqb, ne_eqb, cond-true, cond-false}
 use Rattle.schedule.specs.Search.{largest}
@@ -19,8 +18,8 @@ loop-k-preserved c =
       | then-self-k w ↦
           (let own = eq-eqb (get_or slots k 0) d (read ∙ w.if-self-k.true) in
           let from : gap_from slots d k ≡ until_next slots d k = cond-true _ _ _ own in
-          let sum : w.max-longest.result ≡ max c.loop-k.longest w.until-next.result = w.max-longest.ensures in
-          let next = w.until-next.ensures ∙ sym from in
+          let sum : w.max-longest.result ≡ max c.loop-k.longest w.until_next.result = w.max-longest.ensures in
+          let next = w.until_next.ensures ∙ sym from in
           w.longest-is ∙ (sum ∙ λ i. max (c.loop-k.invariant i) (next i)))
       | else-self-k w ↦
           (let other = ne_eqb (get_or slots k 0) d (λ e. w.if-self-k.false (sym read ∙ e)) in

@@ -1,5 +1,5 @@
 -- The longest gap from the slots looked at so far; no gap is longer than the period and one.
-use Rattle.std.proofs.Common.{◌≡◌, cond, eqb, get_or, take}
+use Rattle.std.proofs.Common.{◌≡◌, take}
 use Rattle.schedule.specs.Search.{largest}
 use Rattle.schedule.specs.Turns.{gap_from}
 use Rattle.schedule.proofs.plan.Plan.gap.Given as goal

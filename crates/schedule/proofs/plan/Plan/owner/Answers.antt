@@ -1,8 +1,8 @@
-use Rattle.std.proofs.Common.{◌≡◌, ◌+◌, ◌%◌, ◌<◌, true, ◌&&◌, ltb, get_or, Some, sym, ap, ◌∙◌, arith}
+use Rattle.std.proofs.Common.{◌≡◌, ◌+◌, ◌%◌, ◌<◌, true, ◌&&◌, ltb, get_or, Some, sym, ap, arith}
 use Rattle.std.proofs.lemmas.Bool.{and_from, lt-ltb}
 use Rattle.schedule.specs.Plans.{timetable_of}
 use Rattle.schedule.specs.Timetable.{routers}
-use Rattle.schedule.specs.Turns.{turn, owner}
+use Rattle.schedule.specs.Turns.{owner}
 use Rattle.schedule.proofs.Held.{turn_is, offset_is}
 use Rattle.schedule.proofs.plan.Plan.owner.Goals as goal
 

@@ -1,6 +1,5 @@
-use Rattle.std.proofs.Common.{◌≡◌, ℕ, ◌+◌, ◌<◌, true, false, eqb, length, take, sym, ap, ◌∙◌, arith, below_more}
+use Rattle.std.proofs.Common.{◌≡◌, ◌+◌, true, eqb, length, take, sym, ◌∙◌, arith, below_more}
 use Rattle.std.proofs.lemmas.Bool.{eq-eqb, ne_eqb}
-use Rattle.schedule.specs.Search.{first}
 use Rattle.schedule.specs.Turns.{turn}
 use Rattle.schedule.proofs.First.{first_at, first_none}
 use Rattle.schedule.proofs.Held.{slots_length, turn_is}

@@ -2,7 +2,6 @@
 use Rattle.std.proofs.Common.{◌≡◌, ℕ, ◌+◌, ◌-◌, ◌*◌, ◌<◌, ◌≤◌, cond, eqb, List, [], ◌∷◌, length, sym, refl, ap, ◌∙◌, subst, ⊎_elim, arith}
 use Rattle.std.proofs.lemmas.Bool.{cases_lt, cases_eq, cond-false, eqb-true, eq-eqb, ne_eqb}
 use Rattle.machine.specs.Machine.{Machine, routers, owner, beyond, domains, hop}
-use Rattle.schedule.specs.Search.{first}
 use Rattle.schedule.specs.Turns.{gap}
 use Rattle.machine.specs.Promise.{straight_runs, turn_from, at_one, home, Path, bound}
 use Rattle.machine.proofs.Links.{beyond_back, beyond_low}

@@ -53,10 +53,10 @@ deliveries_long plan a b is =
 pub lent : {P : Type 0} (plan : Plan) (t : Tables P)
     → Long plan (length t.queues) (length t.places) (length t.payloads) (length t.words)
     → scan.sound plan t.cycle t.queues t.places ≡ true → Lent plan t
-unfolding scan.sound scan.sound-queue
+unfolding scan.sound scan.sound_queue
 lent plan t l ok =
     let one = λ (q : ℕ) (h : q < queue_count plan). and_parts _ _
-    (below_at (scan.sound-queue plan t.cycle t.queues t.places) (queue_count plan) q ok h) in
+    (below_at (scan.sound_queue plan t.cycle t.queues t.places) (queue_count plan) q ok h) in
     record {
       fit = record {
         queues_in = l.queues_in;

@@ -54,8 +54,8 @@ module _ {P : Type 0} (plan : Plan) (choose : ℕ → ℕ → ℕ × ℕ) (route
 
   queue_same : (q : ℕ) → q < queue_count plan
       → queue_after plan ms q (queue_at t q)
-      ≡ moved_by.queue-after B (leaves m (q % D) (view m t (q % D)) (q / D / 5) (q / D % 5)) (length (joined_to q)) (queue_at t q)
-  unfolding queue_after moved_by.queue-after bit
+      ≡ moved_by.queue_after B (leaves m (q % D) (view m t (q % D)) (q / D / 5) (q / D % 5)) (length (joined_to q)) (queue_at t q)
+  unfolding queue_after moved_by.queue_after bit
   queue_same q h =
       let x = queue_at t q in
       let l : Bool = leaves m (q % D) (view m t (q % D)) (q / D / 5) (q / D % 5) in
@@ -80,8 +80,8 @@ module _ {P : Type 0} (plan : Plan) (choose : ℕ → ℕ → ℕ × ℕ) (route
   place_idle false a xs x e f = rw f refl
 
   payload_idle : (here : Bool) (a : Option ℕ) (xs : List (Packet P)) (x : P) → a ≡ None → xs ≡ []
-      → payload_by ms t.payloads (cond here a None) x ≡ moved_by.payload-after here xs x
-  unfolding moved_by.payload-after
+      → payload_by ms t.payloads (cond here a None) x ≡ moved_by.payload_after here xs x
+  unfolding moved_by.payload_after
   payload_idle true a xs x e f = rw (e, f) refl
   payload_idle false a xs x e f = rw f refl
 
@@ -98,8 +98,8 @@ module _ {P : Type 0} (plan : Plan) (choose : ℕ → ℕ → ℕ × ℕ) (route
     place_joined false a xs x e f = rw f refl
 
     payload_joined : (here : Bool) (a : Option ℕ) (xs : List (Packet P)) (x : P) → a ≡ Some yes.from → xs ≡ yes.packet ∷ []
-        → payload_by ms t.payloads (cond here a None) x ≡ moved_by.payload-after here xs x
-    unfolding moved_by.payload-after
+        → payload_by ms t.payloads (cond here a None) x ≡ moved_by.payload_after here xs x
+    unfolding moved_by.payload_after
     payload_joined true a xs x e f = rw (e, f) (yes.payload x)
     payload_joined false a xs x e f = rw f refl
 
@@ -115,7 +115,7 @@ module _ {P : Type 0} (plan : Plan) (choose : ℕ → ℕ → ℕ × ℕ) (route
       (joining plan choose route t lent lawful (k / B) h)
 
   payload_same : (k : ℕ) (x : P) → k / B < queue_count plan
-      → payload_after plan t.queues ms t.payloads k x ≡ moved_by.payload-after (here k) (joined_to (k / B)) x
+      → payload_after plan t.queues ms t.payloads k x ≡ moved_by.payload_after (here k) (joined_to (k / B)) x
   unfolding payload_after landing is_end queue_at
   payload_same k x h = ⊎_elim
       (λ no. payload_idle (here k) _ (joined_to (k / B)) x no.0 no.1)
@@ -162,12 +162,12 @@ module _ {P : Type 0} (plan : Plan) (choose : ℕ → ℕ → ℕ × ℕ) (route
     passes : (get_or ms (r * 5 + 4) idle).passes ≡ true
     owned : (get_or ms (r * 5 + 4) idle).owner ≡ owner m r 4 t.cycle
     packet : Packet P
-    over : moved_by.handed-over m t r ≡ packet ∷ []
+    over : moved_by.handed_over m t r ≡ packet ∷ []
     source : packet.source ≡ (get_or ms (r * 5 + 4) idle).source
     payload : (x : P) → get_or t.payloads (get_or ms (r * 5 + 4) idle).from x ≡ packet.payload
 
-  handing : (r : ℕ) → r < heads.routers plan → (((get_or ms (r * 5 + 4) idle).passes ≡ false) × (moved_by.handed-over m t r ≡ [])) ⊎ Handed r
-  unfolding moved_by.handed-over owner ports-of.owner
+  handing : (r : ℕ) → r < heads.routers plan → (((get_or ms (r * 5 + 4) idle).passes ≡ false) × (moved_by.handed_over m t r ≡ [])) ⊎ Handed r
+  unfolding moved_by.handed_over owner ports-of.owner
   handing r h =
       let k = r * 5 + 4 in
       let hk = port_in plan r 4 h (omega arith) in
@@ -191,7 +191,7 @@ module _ {P : Type 0} (plan : Plan) (choose : ℕ → ℕ → ℕ × ℕ) (route
       (cases_Bool (passing ms k d))
 
   delivery_same : (r : ℕ) (x : Delivery) → r < heads.routers plan
-      → delivery_after ms r x ≡ moved_by.record_of (owner m r 4 t.cycle) (moved_by.handed-over m t r)
+      → delivery_after ms r x ≡ moved_by.record_of (owner m r 4 t.cycle) (moved_by.handed_over m t r)
   unfolding delivery_after moved_by.record_of
   delivery_same r x h = ⊎_elim
       (λ no. let off = no.0 in let none = no.1 in rw (off, none) refl)
@@ -200,19 +200,19 @@ module _ {P : Type 0} (plan : Plan) (choose : ℕ → ℕ → ℕ × ℕ) (route
       (handing r h)
 
   delivered_same : (r : ℕ) (x : P) → r < heads.routers plan
-      → delivered_after ms t.payloads r x ≡ moved_by.payload-beside (moved_by.handed-over m t r) x
-  unfolding delivered_after moved_by.payload-beside
+      → delivered_after ms t.payloads r x ≡ moved_by.payload_beside (moved_by.handed_over m t r) x
+  unfolding delivered_after moved_by.payload_beside
   delivered_same r x h = ⊎_elim
       (λ no. let off = no.0 in let none = no.1 in rw (off, none) refl)
       (λ yes. let on = yes.passes in let all = yes.over in rw (on, all) (yes.payload x))
       (handing r h)
 
   pub deliveries_cycled : (deliveries : List Delivery) → edit 0 (heads.routers plan) (delivery_after ms) deliveries
-      ≡ edit 0 (routers m) (λ router _. moved_by.record_of (owner m router 4 t.cycle) (moved_by.handed-over m t router)) deliveries
+      ≡ edit 0 (routers m) (λ router _. moved_by.record_of (owner m router 4 t.cycle) (moved_by.handed_over m t router)) deliveries
   unfolding routers
   deliveries_cycled deliveries = edit_like (heads.routers plan) _ _ deliveries (λ r x h. delivery_same r x h)
 
   pub delivered_cycled : (delivered : List P) → edit 0 (heads.routers plan) (delivered_after ms t.payloads) delivered
-      ≡ edit 0 (routers m) (λ router x. moved_by.payload-beside (moved_by.handed-over m t router) x) delivered
+      ≡ edit 0 (routers m) (λ router x. moved_by.payload_beside (moved_by.handed_over m t router) x) delivered
   unfolding routers
   delivered_cycled delivered = edit_like (heads.routers plan) _ _ delivered (λ r x h. delivered_same r x h)

@@ -52,11 +52,11 @@ module _ (plan : Plan) (choose : ℕ → ℕ → ℕ × ℕ) (route : Position �
 
   module _ {P : Type 0} (t : Tables P) where
     pub fitting : long_enough (machine plan choose route) (lengths t 0 0) ≡ true → sound (machine plan choose route) t ≡ true → Fitting plan t
-    unfolding lengths scan.sound scan.sound-queue
+    unfolding lengths scan.sound scan.sound_queue
     fitting e s =
         let l = long (lengths t 0 0) e in
         let all = sym (sound_same plan choose route t l.payloads_in) ∙ s in
-        let one = λ (q : ℕ) (h : q < queue_count plan). and_parts _ _ (below_at (scan.sound-queue plan t.cycle t.queues t.places) (queue_count plan) q all h) in
+        let one = λ (q : ℕ) (h : q < queue_count plan). and_parts _ _ (below_at (scan.sound_queue plan t.cycle t.queues t.places) (queue_count plan) q all h) in
         record {
           fit = record {
             queues_in = l.queues_in;

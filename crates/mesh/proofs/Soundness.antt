@@ -51,8 +51,8 @@ module _ {P : Type 0} (plan : Plan) (choose : ℕ → ℕ → ℕ × ℕ) (route
   packet_same q j h = refl
 
   queue_same : (q : ℕ) → q < queue_count plan
-      → sound_queue (machine plan choose route) t q ≡ scan.sound-queue plan t.cycle t.queues t.places q
-  unfolding sound_queue scan.sound-queue queue_at depth
+      → sound_queue (machine plan choose route) t q ≡ scan.sound_queue plan t.cycle t.queues t.places q
+  unfolding sound_queue scan.sound_queue queue_at depth
   queue_same q h =
       let m : Machine = machine plan choose route in
       let x = queue_at t q in

@@ -32,7 +32,7 @@ pub(crate) fn wanted<R: RouteRule>(
     requires place_in { q * plan.now.sizes.depth + (slice_index_or queues.now q no_queue).first < length places.now }
     requires small { q ≤ 2560 }
     ensures { result ≡ wanted_of
-        (outset plan.now (meaning rule.now) cycle queues.now places.now) router q }
+        (outset plan.now (R.RouteRule.meaning rule.now) cycle queues.now places.now) router q }
 {
     let queue = queues[q];
     if queue.count == 0 {

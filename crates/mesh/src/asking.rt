@@ -70,7 +70,7 @@ fn ask_in<R: RouteRule>(
     requires small { (p : ℕ) → p < 5 → slice_index sets.old p < 32 }
     ensures { (p : ℕ) → p < 5 → slice_index sets.new p
         ≡ cond (slice_index owners.now p == domain)
-        (asking_set (outset plan.now (meaning rule.now) cycle queues.now places.now)
+        (asking_set (outset plan.now (R.RouteRule.meaning rule.now) cycle queues.now places.now)
         router p domain)
         (slice_index sets.old p) }
 {
@@ -97,7 +97,7 @@ pub(crate) fn asking_sides<R: RouteRule>(
     requires owners_in { (p : ℕ) → p < 5 → slice_index owners.now p < plan.now.sizes.domains }
     requires fit { Fit plan.now queues.now places.now }
     ensures { (p : ℕ) → p < 5 → slice_index result p
-        ≡ asking_set (outset plan.now (meaning rule.now) cycle queues.now places.now) router p
+        ≡ asking_set (outset plan.now (R.RouteRule.meaning rule.now) cycle queues.now places.now) router p
         (slice_index owners.now p) }
 {
     let mut sets = [0u8; 5];

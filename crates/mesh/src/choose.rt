@@ -67,7 +67,7 @@ fn choose_port<A: Arbiter>(
     requires words_in { queue_count plan.now ≤ length words.now }
     ensures { result ≡ move_by plan.now queues.now places.now k domain
         (room_of plan.now queues.now k domain) set
-        (meaning arbiter.now (slice_index words.now (k * plan.now.sizes.domains + domain)) set) }
+        (A.Arbiter.meaning arbiter.now (slice_index words.now (k * plan.now.sizes.domains + domain)) set) }
 {
     if set == 0 {
         return IDLE;

@@ -4,8 +4,8 @@ use Rattle.mesh.specs.Heads.{no_queue}
 use Rattle.mesh.proofs.Index.{place_in, place_count_le}
 use Rattle.mesh.proofs.apply.end_place.Goals as goal
 
-pub overflow-mul-result : goal.overflow-mul-result
-overflow-mul-result c =
+pub overflow_mul-result : goal.overflow_mul-result
+overflow_mul-result c =
     let x = get_or c.args.queues.now c.args.q no_queue in
     let h = place_in c.args.plan.now c.args.q ((x.first + x.count) % c.args.plan.now.sizes.depth) c.requires.inside
     (mod_below _ c.args.plan.now.sizes.depth (omega arith)) in
@@ -20,8 +20,8 @@ returns c =
     let w = c.wrapped.ensures in
     record { is = ap (λ n. c.args.q * c.args.plan.now.sizes.depth + n) w; inside = rw w h }
 
-pub overflow-add-result : goal.overflow-add-result
-overflow-add-result c =
+pub overflow_add-result : goal.overflow_add-result
+overflow_add-result c =
     let x = get_or c.args.queues.now c.args.q no_queue in
     let h = place_in c.args.plan.now c.args.q ((x.first + x.count) % c.args.plan.now.sizes.depth) c.requires.inside
     (mod_below _ c.args.plan.now.sizes.depth (omega arith)) in

@@ -49,8 +49,8 @@ loop-k-preserved-then-not-m g c =
       payloads_keep plan queues ms o k low c.args.payloads.now c.loop-k.payloads is.3 off,
     )
 
-pub offset-bounds-words-k : goal.offset-bounds-words-k
-offset-bounds-words-k g c =
+pub offset_bounds-words-k : goal.offset_bounds-words-k
+offset_bounds-words-k g c =
     let h = queue_in c.args.plan.now c.loop-k.k (get_or c.args.moves.now c.loop-k.k idle).owner
     (port_below c.args.plan.now c.routers.result c.loop-k.k c.routers.ensures.is c.loop-k-test.true)
     (c.requires.orderly.owns c.loop-k.k) in
@@ -64,8 +64,8 @@ bounds-words-k g c =
     (c.requires.orderly.owns c.loop-k.k) in
     omega arith
 
-pub slice-copy-out·left : goal.slice-copy-out·left
-slice-copy-out·left g c =
+pub slice_copy_out-left : goal.slice_copy_out-left
+slice_copy_out-left g c =
     let m = get_or c.args.moves.now c.loop-k.k idle in
     let h = side_queue_in c.args.plan.now c.loop-k.k m.winner m.owner
     (port_below c.args.plan.now c.routers.result c.loop-k.k c.routers.ensures.is c.loop-k-test.true)
@@ -96,8 +96,8 @@ left-requires g c =
     (o.wins c.loop-k.k) (o.owns c.loop-k.k) in
     record { some = omega arith; low = rw e.0 (c.requires.fit.firsts (source plan c.args.moves.now c.loop-k.k) q) }
 
-pub loop-k-preserved-in-default : goal.loop-k-preserved-in-default
-loop-k-preserved-in-default g c =
+pub loop-k-preserved-in_default : goal.loop-k-preserved-in_default
+loop-k-preserved-in_default g c =
     let plan = c.args.plan.now in
     let queues = c.args.queues.now in
     let ms = c.args.moves.now in
@@ -106,7 +106,7 @@ loop-k-preserved-in-default g c =
     let low = port_below c.args.plan.now c.routers.result c.loop-k.k c.routers.ensures.is c.loop-k-test.true in
     let yes : (get_or ms k idle).passes ≡ true = not-false _ c.if-not-m.false in
     let is = c.loop-k.invariant in
-    let none = sym c.in-default.ensures.is in
+    let none = sym c.in_default.ensures.is in
     let gone = queues_leave plan queues ms o k low c.requires.fit.queues_in c.loop-k.queues is.1 yes c.left.result
     c.left.ensures.first c.left.ensures.count in (
       words_put plan queues ms o k low c.args.words.now c.loop-k.words is.0 c.requires.words_in yes,
@@ -115,8 +115,8 @@ loop-k-preserved-in-default g c =
       payloads_out plan queues ms o k low c.args.payloads.now c.loop-k.payloads is.3 none,
     )
 
-pub end-place-at-requires : goal.end-place-at-requires
-end-place-at-requires g c =
+pub end_place-at-requires : goal.end_place-at-requires
+end_place-at-requires g c =
     let plan = c.args.plan.now in
     let queues = c.args.queues.now in
     let ms = c.args.moves.now in
@@ -141,21 +141,21 @@ end-place-at-requires g c =
       few = le_trans few n;
     }
 
-pub offset-bounds-queues-to : goal.offset-bounds-queues-to
-offset-bounds-queues-to g c =
+pub offset_bounds-queues-to : goal.offset_bounds-queues-to
+offset_bounds-queues-to g c =
     let h = queue_in c.args.plan.now c.in-Some.j (get_or c.args.moves.now c.loop-k.k idle).owner
     c.in-Some.ensures.inside (c.requires.orderly.owns c.loop-k.k) in
     let n = queue_count_le c.args.plan.now in
     omega arith
 
-pub slice-copy-out·joined : goal.slice-copy-out·joined
-slice-copy-out·joined g c =
+pub slice_copy_out-joined : goal.slice_copy_out-joined
+slice_copy_out-joined g c =
     let h = queue_in c.args.plan.now c.in-Some.j (get_or c.args.moves.now c.loop-k.k idle).owner
     c.in-Some.ensures.inside (c.requires.orderly.owns c.loop-k.k) in
     simp length-set (omega arith)
 
-pub offset-bounds-queues-to-in-loop-k : goal.offset-bounds-queues-to-in-loop-k
-offset-bounds-queues-to-in-loop-k g c =
+pub offset_bounds-queues-to-in-loop-k : goal.offset_bounds-queues-to-in-loop-k
+offset_bounds-queues-to-in-loop-k g c =
     let h = queue_in c.args.plan.now c.in-Some.j (get_or c.args.moves.now c.loop-k.k idle).owner
     c.in-Some.ensures.inside (c.requires.orderly.owns c.loop-k.k) in
     let n = queue_count_le c.args.plan.now in
@@ -204,7 +204,7 @@ loop-k-preserved g c =
     let j = c.in-Some.j in
     let some = sym c.in-Some.ensures.is in
     let inside = c.in-Some.ensures.inside in
-    let at = c.end-place-at.ensures.is ∙ queues_end plan queues ms o k low long cur gone j some inside in
+    let at = c.end_place-at.ensures.is ∙ queues_end plan queues ms o k low long cur gone j some inside in
     let packet : Place =
     record { destination = (get_or ms k idle).destination; source = (get_or ms k idle).source; ready = c.args.cycle + plan.sizes.hop } in
     let put_place = places_put plan queues ms o k low c.args.cycle c.args.places.now c.loop-k.places is.2

@@ -23,8 +23,8 @@ pub wanted-wants-requires : goal.wanted-wants-requires
 wanted-wants-requires g c =
     let plan = c.args.plan.now in
     let fit = c.requires.fit in
-    let k = port_in plan c.args.router c.loop-side.side c.requires.router-in (omega arith) in
-    let q = queue_in plan (c.args.router * 5 + c.loop-side.side) c.args.domain k c.requires.domain-in in
+    let k = port_in plan c.args.router c.loop-side.side c.requires.router_in (omega arith) in
+    let q = queue_in plan (c.args.router * 5 + c.loop-side.side) c.args.domain k c.requires.domain_in in
     let j = place_in plan ((c.args.router * 5 + c.loop-side.side) * plan.sizes.domains + c.args.domain)
     (get_or c.args.queues.now ((c.args.router * 5 + c.loop-side.side) * plan.sizes.domains + c.args.domain) no_queue).first q
     (fit.firsts _ q) in
@@ -44,8 +44,8 @@ mark-requires g c =
           c.loop-side.side (get_or c.args.sets.now p 0) (omega arith) (c.requires.small p l));
     }
 
-pub overflow-mul-bit : goal.overflow-mul-bit
-overflow-mul-bit g c =
+pub overflow_mul-bit : goal.overflow_mul-bit
+overflow_mul-bit g c =
     let b = c.loop-side.invariant.1 in
     let h : 2 ^ c.loop-side.side < 2 ^ 5 = pow_below c.loop-side.side 5 c.loop-side-test.true in
     omega arith

@@ -19,13 +19,13 @@ loop-domain-preserved-then-not-owned g c =
     ∙ range_same (asking_set v c.args.router p) (get_or c.args.owners.now p 0) c.loop-domain.domain
     (unowned c.args.owners.now c.loop-domain.domain (sym c.if-not-owned.ensures) p h)
 
-pub ask-in-requires : goal.ask-in-requires
-ask-in-requires g c =
+pub ask_in-requires : goal.ask_in-requires
+ask_in-requires g c =
     let v = outset c.args.plan.now (g.R.RouteRule.meaning c.args.rule.now) c.args.cycle c.args.queues.now
     c.args.places.now in
     record {
-      router_in = c.requires.router-in;
-      domain-in = c.loop-domain-test.true;
+      router_in = c.requires.router_in;
+      domain_in = c.loop-domain-test.true;
       fit = c.requires.fit;
       empty = λ p h e. c.loop-domain.invariant p h ∙ rw (le-ltb (get_or c.args.owners.now p 0) c.loop-domain.domain (omega arith)) refl;
       small = λ p h. rw (c.loop-domain.invariant p h)
@@ -38,9 +38,9 @@ loop-domain-preserved g c =
     let v = outset c.args.plan.now (g.R.RouteRule.meaning c.args.rule.now) c.args.cycle c.args.queues.now
     c.args.places.now in
     λ p h. range_more (asking_set v c.args.router p) (get_or c.args.owners.now p 0) c.loop-domain.domain
-    (get_or c.loop-domain.sets p 0) (get_or c.ask-in.new.sets p 0) (c.loop-domain.invariant p h) (c.ask-in.ensures p h)
+    (get_or c.loop-domain.sets p 0) (get_or c.ask_in.new.sets p 0) (c.loop-domain.invariant p h) (c.ask_in.ensures p h)
 
 pub returns : goal.returns
 returns g c =
-    λ p h. let low = c.requires.owners-in p h in
+    λ p h. let low = c.requires.owners_in p h in
     c.loop-domain.invariant p h ∙ rw (lt-ltb (get_or c.args.owners.now p 0) c.loop-domain.domain (omega arith)) refl

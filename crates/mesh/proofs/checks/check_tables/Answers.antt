@@ -9,16 +9,16 @@ use Rattle.mesh.proofs.Refused.{passed, check_stops, check_passes, handed_on, al
 use Rattle.mesh.proofs.Soundness.{sound_same}
 use Rattle.mesh.proofs.checks.check_tables.Goals as goal
 
-pub returns-in-err-check : goal.returns-in-err-check
+pub returns-in_err-check : goal.returns-in_err-check
 unfolding lengths
-returns-in-err-check g c = λ choose route.
-    handed_on c.from-residual.result c.in-err-check.field-0.0 c.from-residual.ensures.1
-    ∙ sym (ap answered (check_stops _ _ (c.tables-long-enough-long.ensures choose route) TableTooShort _ _ c.in-err-check.ensures))
+returns-in_err-check g c = λ choose route.
+    handed_on c.from_residual.result c.in_err-check.field-0.0 c.from_residual.ensures.1
+    ∙ sym (ap answered (check_stops _ _ (c.tables_long_enough-long.ensures choose route) TableTooShort _ _ c.in_err-check.ensures))
 
 pub sound-requires : goal.sound-requires
 sound-requires g c =
     let l = long c.args.plan.now some_choice some_route _
-    (sym (c.tables-long-enough-long.ensures some_choice some_route) ∙ passed _ _ c.in-ok-check.ensures) in
+    (sym (c.tables_long_enough-long.ensures some_choice some_route) ∙ passed _ _ c.in_ok-check.ensures) in
     record { queues_in = l.queues_in; long = l.places_in }
 
 pub returns : goal.returns
@@ -27,9 +27,9 @@ returns g c = λ choose route.
     let a = c.args in
     let t = tables {P = g.row.P.Denot} a.cycle a.queues.now a.places.now a.payloads.now a.words.now in
     let l = long c.args.plan.now some_choice some_route _
-    (sym (c.tables-long-enough-long.ensures some_choice some_route) ∙ passed _ _ c.in-ok-check.ensures) in
+    (sym (c.tables_long_enough-long.ensures some_choice some_route) ∙ passed _ _ c.in_ok-check.ensures) in
     let same = c.sound.ensures ∙ sym (sound_same c.args.plan.now choose route t l.payloads_in) in
     c.check-2.ensures
     ∙ ap (λ b. answered (check b UnsoundTable)) same
     ∙ alone _
-    ∙ sym (ap answered (check_passes _ _ (c.tables-long-enough-long.ensures choose route) TableTooShort _ c.in-ok-check.ensures))
+    ∙ sym (ap answered (check_passes _ _ (c.tables_long_enough-long.ensures choose route) TableTooShort _ c.in_ok-check.ensures))

@@ -8,8 +8,8 @@ use Rattle.mesh.proofs.choose.choose_all.Goals as goal
 pub loop-router-init : goal.loop-router-init
 loop-router-init g c = sym (edit_none _ _)
 
-pub choose-router-requires : goal.choose-router-requires
-choose-router-requires g c =
+pub choose_router-requires : goal.choose_router-requires
+choose_router-requires g c =
     record {
       router_in = omega (arith, c.routers-router-end.ensures.is);
       fit = c.requires.fit;
@@ -23,7 +23,7 @@ loop-router-preserved g c =
     let f = chosen (outset c.args.plan.now (g.R.RouteRule.meaning c.args.rule.now) c.args.cycle c.args.queues.now
     c.args.places.now) (g.A.Arbiter.meaning c.args.arbiter.now) c.args.words.now in
     let e : c.loop-router.router * 5 + 5 ≡ (c.loop-router.router + 1) * 5 = omega arith in
-    c.choose-router.ensures ∙ ap (λ n. edit 0 n f (replicate 320 idle)) e
+    c.choose_router.ensures ∙ ap (λ n. edit 0 n f (replicate 320 idle)) e
 
 pub returns : goal.returns
 unfolding moves

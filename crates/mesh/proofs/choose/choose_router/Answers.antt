@@ -17,21 +17,21 @@ loop-port-init g c =
 
 pub bounds-moves-k : goal.bounds-moves-k
 bounds-moves-k g c =
-    let h = port_in c.args.plan.now c.args.router c.loop-port.port c.requires.router-in c.loop-port-test.true in
+    let h = port_in c.args.plan.now c.args.router c.loop-port.port c.requires.router_in c.loop-port-test.true in
     let n = ports_le c.args.plan.now in
     omega arith
 
-pub choose-port-requires : goal.choose-port-requires
-choose-port-requires g c =
+pub choose_port-requires : goal.choose_port-requires
+choose_port-requires g c =
     let v = outset c.args.plan.now (g.R.RouteRule.meaning c.args.rule.now) c.args.cycle c.args.queues.now
     c.args.places.now in
     let p = c.loop-port.port in
     let h = c.loop-port-test.true in
-    let d = get_or c.router-owners-owners.result p 0 in
+    let d = get_or c.router_owners-owners.result p 0 in
     record {
-      port_in = port_in c.args.plan.now c.args.router p c.requires.router-in h;
-      domain-in = c.router-owners-owners.ensures.below p h;
-      few = rw (c.asking-sides-sets.ensures p h) (mask_lt (asker v c.args.router p d) 5);
+      port_in = port_in c.args.plan.now c.args.router p c.requires.router_in h;
+      domain_in = c.router_owners-owners.ensures.below p h;
+      few = rw (c.asking_sides-sets.ensures p h) (mask_lt (asker v c.args.router p d) 5);
       fit = c.requires.fit;
       words_in = c.requires.words_in;
     }
@@ -46,15 +46,15 @@ loop-port-preserved g c =
     let p = c.loop-port.port in
     let h = c.loop-port-test.true in
     let k = c.args.router * 5 + p in
-    let low = port_in c.args.plan.now c.args.router p c.requires.router-in h in
+    let low = port_in c.args.plan.now c.args.router p c.requires.router_in h in
     let n = ports_le c.args.plan.now in
     let l : k < length (replicate 320 idle) = rw (length-replicate 320 idle) (omega arith) in
     let next : k + 1 ≡ c.args.router * 5 + (p + 1) = omega arith in
-    ap (λ xs. set xs k c.choose-port.result) c.loop-port.invariant
-    ∙ edit_put f (replicate 320 idle) k c.choose-port.result idle l
-    (c.choose-port.ensures
-    ∙ settled v choose c.args.words.now c.args.router p (get_or c.router-owners-owners.result p 0)
-    (get_or c.asking-sides-sets.result p 0) h (c.router-owners-owners.ensures.is p h) (c.asking-sides-sets.ensures p h))
+    ap (λ xs. set xs k c.choose_port.result) c.loop-port.invariant
+    ∙ edit_put f (replicate 320 idle) k c.choose_port.result idle l
+    (c.choose_port.ensures
+    ∙ settled v choose c.args.words.now c.args.router p (get_or c.router_owners-owners.result p 0)
+    (get_or c.asking_sides-sets.result p 0) h (c.router_owners-owners.ensures.is p h) (c.asking_sides-sets.ensures p h))
     ∙ ap (λ i. edit 0 i f (replicate 320 idle)) next
 
 pub returns : goal.returns

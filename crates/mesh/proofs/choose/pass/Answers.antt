@@ -5,13 +5,13 @@ use Rattle.mesh.proofs.choose.pass.Goals as goal
 
 pub bounds-places-from : goal.bounds-places-from
 bounds-places-from c =
-    let j = place_in c.args.plan.now c.args.q (get_or c.args.queues.now c.args.q no_queue).first c.requires.queue-in
-    (c.requires.fit.firsts _ c.requires.queue-in) in
+    let j = place_in c.args.plan.now c.args.q (get_or c.args.queues.now c.args.q no_queue).first c.requires.queue_in
+    (c.requires.fit.firsts _ c.requires.queue_in) in
     omega arith
 
-pub offset-bounds-places-from : goal.offset-bounds-places-from
-offset-bounds-places-from c =
-    let j = place_in c.args.plan.now c.args.q (get_or c.args.queues.now c.args.q no_queue).first c.requires.queue-in
-    (c.requires.fit.firsts _ c.requires.queue-in) in
+pub offset_bounds-places-from : goal.offset_bounds-places-from
+offset_bounds-places-from c =
+    let j = place_in c.args.plan.now c.args.q (get_or c.args.queues.now c.args.q no_queue).first c.requires.queue_in
+    (c.requires.fit.firsts _ c.requires.queue_in) in
     let n = place_count_le c.args.plan.now in
     omega arith

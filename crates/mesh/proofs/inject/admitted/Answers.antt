@@ -10,69 +10,69 @@ use Rattle.mesh.proofs.Fitting.{tables_fit, some_choice, some_route}
 use Rattle.mesh.proofs.Refused.{passed, check_stops, check_passes, goes_on, handed_on, none_refuses, stops}
 use Rattle.mesh.proofs.inject.admitted.Goals as goal
 
-pub returns-in-err-check-tables : goal.returns-in-err-check-tables
+pub returns-in_err-check_tables : goal.returns-in_err-check_tables
 unfolding answer injection_refusal
-returns-in-err-check-tables g c = λ choose route.
+returns-in_err-check_tables g c = λ choose route.
     let a = c.args in
     let t = tables {P = g.row.P.Denot} a.cycle a.queues.now a.places.now a.payloads.now a.words.now in
     let m = machine c.args.plan.now choose route in
-    handed_on c.from-residual.result c.in-err-check-tables.field-0.0 c.from-residual.ensures.1
+    handed_on c.from_residual.result c.in_err-check_tables.field-0.0 c.from_residual.ensures.1
     ∙ sym (ap (λ v. answer v (own_queue m c.args.router c.args.domain))
-    (stops (table_checks m t) _ _ (c.in-err-check-tables.ensures choose route)))
+    (stops (table_checks m t) _ _ (c.in_err-check_tables.ensures choose route)))
 
-pub returns-in-err-check : goal.returns-in-err-check
+pub returns-in_err-check : goal.returns-in_err-check
 unfolding answer injection_refusal routers
-returns-in-err-check g c = λ choose route.
+returns-in_err-check g c = λ choose route.
     let a = c.args in
     let t = tables {P = g.row.P.Denot} a.cycle a.queues.now a.places.now a.payloads.now a.words.now in
     let m = machine c.args.plan.now choose route in
     let inside = ap (λ n. ltb c.args.router n && ltb c.args.destination n) c.routers-routers.ensures.is in
-    handed_on c.from-residual-in-err-check.result c.in-err-check.field-0.0 c.from-residual-in-err-check.ensures.1
+    handed_on c.from_residual-in_err-check.result c.in_err-check.field-0.0 c.from_residual-in_err-check.ensures.1
     ∙ sym (ap (λ v. answer v (own_queue m c.args.router c.args.domain))
-    (goes_on (table_checks m t) _ (c.in-ok-check-tables.ensures choose route)
-    ∙ check_stops _ _ inside OutsideMesh _ _ c.in-err-check.ensures))
+    (goes_on (table_checks m t) _ (c.in_ok-check_tables.ensures choose route)
+    ∙ check_stops _ _ inside OutsideMesh _ _ c.in_err-check.ensures))
 
-pub returns-in-err-check-2 : goal.returns-in-err-check-2
+pub returns-in_err-check-2 : goal.returns-in_err-check-2
 unfolding answer injection_refusal routers domains
-returns-in-err-check-2 g c = λ choose route.
+returns-in_err-check-2 g c = λ choose route.
     let a = c.args in
     let t = tables {P = g.row.P.Denot} a.cycle a.queues.now a.places.now a.payloads.now a.words.now in
     let m = machine c.args.plan.now choose route in
     let inside = ap (λ n. ltb c.args.router n && ltb c.args.destination n) c.routers-routers.ensures.is in
-    handed_on c.from-residual-in-err-check-2.result c.in-err-check-2.field-0.0 c.from-residual-in-err-check-2.ensures.1
+    handed_on c.from_residual-in_err-check-2.result c.in_err-check-2.field-0.0 c.from_residual-in_err-check-2.ensures.1
     ∙ sym (ap (λ v. answer v (own_queue m c.args.router c.args.domain))
-    (goes_on (table_checks m t) _ (c.in-ok-check-tables.ensures choose route)
-    ∙ check_passes _ _ inside OutsideMesh _ c.in-ok-check.ensures
-    ∙ check_stops _ _ refl NoSuchDomain _ _ c.in-err-check-2.ensures))
+    (goes_on (table_checks m t) _ (c.in_ok-check_tables.ensures choose route)
+    ∙ check_passes _ _ inside OutsideMesh _ c.in_ok-check.ensures
+    ∙ check_stops _ _ refl NoSuchDomain _ _ c.in_err-check-2.ensures))
 
-pub own-queue-q-requires : goal.own-queue-q-requires
-own-queue-q-requires g c =
+pub own_queue-q-requires : goal.own_queue-q-requires
+own_queue-q-requires g c =
     let n = c.routers-routers.ensures.is in
-    let r : c.args.router < c.routers-routers.result = ltb-true _ _ (and_parts _ _ (passed _ _ c.in-ok-check.ensures)).0 in
-    record { router = omega arith; domain = ltb-true _ _ (passed _ _ c.in-ok-check-2.ensures) }
+    let r : c.args.router < c.routers-routers.result = ltb-true _ _ (and_parts _ _ (passed _ _ c.in_ok-check.ensures)).0 in
+    record { router = omega arith; domain = ltb-true _ _ (passed _ _ c.in_ok-check-2.ensures) }
 
 pub bounds-queues-q : goal.bounds-queues-q
 bounds-queues-q g c =
     let a = c.args in
     let t = tables {P = g.row.P.Denot} a.cycle a.queues.now a.places.now a.payloads.now a.words.now in
     let f = tables_fit c.args.plan.now some_choice some_route t
-    (none_refuses _ (c.in-ok-check-tables.ensures some_choice some_route)) in
-    omega (arith, f.fit.queues_in, c.own-queue-q.ensures.inside)
+    (none_refuses _ (c.in_ok-check_tables.ensures some_choice some_route)) in
+    omega (arith, f.fit.queues_in, c.own_queue-q.ensures.inside)
 
-pub returns-in-err-check-3 : goal.returns-in-err-check-3
+pub returns-in_err-check-3 : goal.returns-in_err-check-3
 unfolding answer injection_refusal routers domains depth queue_at
-returns-in-err-check-3 g c = λ choose route.
+returns-in_err-check-3 g c = λ choose route.
     let a = c.args in
     let t = tables {P = g.row.P.Denot} a.cycle a.queues.now a.places.now a.payloads.now a.words.now in
     let m = machine c.args.plan.now choose route in
     let inside = ap (λ n. ltb c.args.router n && ltb c.args.destination n) c.routers-routers.ensures.is in
-    let room = ap (λ q. ltb (get_or c.args.queues.now q no_queue).count c.args.plan.now.sizes.depth) (c.own-queue-q.ensures.is choose route) in
-    handed_on c.from-residual-in-err-check-3.result c.in-err-check-3.field-0.0 c.from-residual-in-err-check-3.ensures.1
+    let room = ap (λ q. ltb (get_or c.args.queues.now q no_queue).count c.args.plan.now.sizes.depth) (c.own_queue-q.ensures.is choose route) in
+    handed_on c.from_residual-in_err-check-3.result c.in_err-check-3.field-0.0 c.from_residual-in_err-check-3.ensures.1
     ∙ sym (ap (λ v. answer v (own_queue m c.args.router c.args.domain))
-    (goes_on (table_checks m t) _ (c.in-ok-check-tables.ensures choose route)
-    ∙ check_passes _ _ inside OutsideMesh _ c.in-ok-check.ensures
-    ∙ check_passes _ _ refl NoSuchDomain _ c.in-ok-check-2.ensures
-    ∙ check_stops _ _ room QueueFull _ _ c.in-err-check-3.ensures))
+    (goes_on (table_checks m t) _ (c.in_ok-check_tables.ensures choose route)
+    ∙ check_passes _ _ inside OutsideMesh _ c.in_ok-check.ensures
+    ∙ check_passes _ _ refl NoSuchDomain _ c.in_ok-check-2.ensures
+    ∙ check_stops _ _ room QueueFull _ _ c.in_err-check-3.ensures))
 
 pub returns : goal.returns
 unfolding answer injection_refusal routers domains depth queue_at
@@ -81,10 +81,10 @@ returns g c = λ choose route.
     let t = tables {P = g.row.P.Denot} a.cycle a.queues.now a.places.now a.payloads.now a.words.now in
     let m = machine c.args.plan.now choose route in
     let inside = ap (λ n. ltb c.args.router n && ltb c.args.destination n) c.routers-routers.ensures.is in
-    let room = ap (λ q. ltb (get_or c.args.queues.now q no_queue).count c.args.plan.now.sizes.depth) (c.own-queue-q.ensures.is choose route) in
-    ap (λ q. Ok q) (c.own-queue-q.ensures.is choose route)
+    let room = ap (λ q. ltb (get_or c.args.queues.now q no_queue).count c.args.plan.now.sizes.depth) (c.own_queue-q.ensures.is choose route) in
+    ap (λ q. Ok q) (c.own_queue-q.ensures.is choose route)
     ∙ sym (ap (λ v. answer v (own_queue m c.args.router c.args.domain))
-    (goes_on (table_checks m t) _ (c.in-ok-check-tables.ensures choose route)
-    ∙ check_passes _ _ inside OutsideMesh _ c.in-ok-check.ensures
-    ∙ check_passes _ _ refl NoSuchDomain _ c.in-ok-check-2.ensures
-    ∙ check_passes _ _ room QueueFull _ c.in-ok-check-3.ensures))
+    (goes_on (table_checks m t) _ (c.in_ok-check_tables.ensures choose route)
+    ∙ check_passes _ _ inside OutsideMesh _ c.in_ok-check.ensures
+    ∙ check_passes _ _ refl NoSuchDomain _ c.in_ok-check-2.ensures
+    ∙ check_passes _ _ room QueueFull _ c.in_ok-check-3.ensures))

@@ -13,20 +13,20 @@ use Rattle.mesh.proofs.Injected.{injected}
 use Rattle.mesh.proofs.Refused.{admits, handed_on, refuses}
 use Rattle.mesh.proofs.inject.inject.Goals as goal
 
-pub returns-in-err-q : goal.returns-in-err-q
-returns-in-err-q g c = λ choose route.
+pub returns-in_err-q : goal.returns-in_err-q
+returns-in_err-q g c = λ choose route.
     let a = c.args in
     let t = tables {P = g.row.P.Denot} a.cycle a.queues.now a.places.now a.payloads.now a.words.now in
     turned_away (machine c.args.plan.now choose route) t c.args.router c.args.domain c.args.destination c.args.payload _
-    c.in-err-q.field-0.0 (handed_on c.from-residual.result c.in-err-q.field-0.0 c.from-residual.ensures.1)
-    (refuses _ _ _ (c.in-err-q.ensures choose route))
+    c.in_err-q.field-0.0 (handed_on c.from_residual.result c.in_err-q.field-0.0 c.from_residual.ensures.1)
+    (refuses _ _ _ (c.in_err-q.ensures choose route))
 
 pub join-requires : goal.join-requires
 join-requires g c =
     let a = c.args in
     let t = tables {P = g.row.P.Denot} a.cycle a.queues.now a.places.now a.payloads.now a.words.now in
-    let a = admits_to c.args.plan.now some_choice some_route t c.args.router c.args.domain c.args.destination c.in-ok-q.q
-    (c.in-ok-q.ensures some_choice some_route) in
+    let a = admits_to c.args.plan.now some_choice some_route t c.args.router c.args.domain c.args.destination c.in_ok-q.q
+    (c.in_ok-q.ensures some_choice some_route) in
     record { fit = a.0.fit; payloads_in = a.0.payloads_in; inside = a.1; free = a.2 }
 
 pub returns : goal.returns
@@ -35,10 +35,10 @@ returns g c = λ choose route.
     let a = c.args in
     let t = tables {P = g.row.P.Denot} a.cycle a.queues.now a.places.now a.payloads.now a.words.now in
     let m = machine c.args.plan.now choose route in
-    let q = c.in-ok-q.q in
+    let q = c.in_ok-q.q in
     let x = fresh c.args.cycle c.args.router c.args.destination c.args.payload in
-    let a = admits_to c.args.plan.now choose route t c.args.router c.args.domain c.args.destination q (c.in-ok-q.ensures choose route) in
-    let v = admits _ _ q (c.in-ok-q.ensures choose route) in
+    let a = admits_to c.args.plan.now choose route t c.args.router c.args.domain c.args.destination q (c.in_ok-q.ensures choose route) in
+    let v = admits _ _ q (c.in_ok-q.ensures choose route) in
     let done = c.join.ensures in
     let end = end_place c.args.plan.now c.args.queues.now q in
     let place : Place = record { destination = c.args.destination; source = c.args.router; ready = c.args.cycle } in

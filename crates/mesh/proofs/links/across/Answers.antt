@@ -6,14 +6,14 @@ use Rattle.mesh.proofs.Across.{beside_some}
 use Rattle.mesh.proofs.Index.{router_in, routers_le}
 use Rattle.mesh.proofs.links.across.Goals as goal
 
-pub overflow-cast-k : goal.overflow-cast-k
-overflow-cast-k c =
+pub overflow_cast-k : goal.overflow_cast-k
+overflow_cast-k c =
     let r = router_in c.args.plan.now c.args.k c.requires in
     let n = routers_le c.args.plan.now in
     omega arith
 
-pub overflow-add-result : goal.overflow-add-result
-overflow-add-result c =
+pub overflow_add-result : goal.overflow_add-result
+overflow_add-result c =
     let plan = c.args.plan.now in
     let b = beside_some plan c.args.k c.in-Some.next c.requires c.in-Some.ensures in
     let o = c.opposite.ensures in

@@ -8,15 +8,15 @@ pub returns-then-k-eq4 : goal.returns-then-k-eq4
 unfolding room
 returns-then-k-eq4 c = search rules
 
-pub offset-bounds-queues-j : goal.offset-bounds-queues-j
-offset-bounds-queues-j c =
-    let q = queue_in c.args.plan.now c.in-Some.j c.args.domain c.in-Some.ensures.inside c.requires.domain-in in
+pub offset_bounds-queues-j : goal.offset_bounds-queues-j
+offset_bounds-queues-j c =
+    let q = queue_in c.args.plan.now c.in-Some.j c.args.domain c.in-Some.ensures.inside c.requires.domain_in in
     let n = queue_count_le c.args.plan.now in
     omega arith
 
 pub bounds-queues-j : goal.bounds-queues-j
 bounds-queues-j c =
-    let q = queue_in c.args.plan.now c.in-Some.j c.args.domain c.in-Some.ensures.inside c.requires.domain-in in
+    let q = queue_in c.args.plan.now c.in-Some.j c.args.domain c.in-Some.ensures.inside c.requires.domain_in in
     omega arith
 
 pub returns-in-Some : goal.returns-in-Some

@@ -19,5 +19,5 @@ pub returns-in-3 : goal.returns-in-3
 unfolding opposite
 returns-in-3 c = rw c.in-3.is refl
 
-pub returns-in-default : goal.returns-in-default
-returns-in-default c = sym (opposite_high c.args.side (omega arith))
+pub returns-in_default : goal.returns-in_default
+returns-in_default c = sym (opposite_high c.args.side (omega arith))

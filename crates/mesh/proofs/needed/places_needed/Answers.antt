@@ -4,12 +4,12 @@ use Rattle.mesh.proofs.Index.{place_count_le}
 use Rattle.mesh.proofs.Counts.{queues_counted}
 use Rattle.mesh.proofs.needed.places_needed.Goals as goal
 
-pub overflow-mul-result : goal.overflow-mul-result
-overflow-mul-result c =
-    let n = queues_counted c.args.plan.now c.queues-needed.result c.queues-needed.ensures in
+pub overflow_mul-result : goal.overflow_mul-result
+overflow_mul-result c =
+    let n = queues_counted c.args.plan.now c.queues_needed.result c.queues_needed.ensures in
     let few = place_count_le c.args.plan.now in
     rw n (omega arith)
 
 pub returns : goal.returns
 unfolding depth
-returns c = λ choose route. ap (λ n. n * c.args.plan.now.sizes.depth) (c.queues-needed.ensures choose route)
+returns c = λ choose route. ap (λ n. n * c.args.plan.now.sizes.depth) (c.queues_needed.ensures choose route)

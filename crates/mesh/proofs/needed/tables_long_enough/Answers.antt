@@ -7,4 +7,4 @@ unfolding long_enough
 returns c =
     λ choose route.
     ap₂ (λ n m. leb n c.args.queues && (leb m c.args.places && (leb m c.args.payloads && leb n c.args.words)))
-    (c.queues-needed-queue-count.ensures choose route) (c.places-needed-place-count.ensures choose route)
+    (c.queues_needed-queue_count.ensures choose route) (c.places_needed-place_count.ensures choose route)

@@ -11,28 +11,28 @@ use Rattle.mesh.proofs.Fitting.{long, some_choice, some_route}
 use Rattle.mesh.proofs.Refused.{passed, check_stops, check_passes, handed_on}
 use Rattle.mesh.proofs.open.open.Goals as goal
 
-pub returns-in-err-check : goal.returns-in-err-check
+pub returns-in_err-check : goal.returns-in_err-check
 unfolding lengths opening_refusal
-returns-in-err-check g c = λ choose route.
+returns-in_err-check g c = λ choose route.
     let a = c.args in
     let t = tables {P = g.row.P.Denot} a.cycle.now a.queues.now a.places.now a.payloads.now a.words.now in
     ap (λ r. outcome_of (without_number r) t [] [])
-    (handed_on c.from-residual.result c.in-err-check.field-0.0 c.from-residual.ensures.1)
-    ∙ unopened (machine c.args.plan.now choose route) t c.in-err-check.field-0.0
-    (check_stops _ _ (c.tables-long-enough-long.ensures choose route) TableTooShort [] _ c.in-err-check.ensures)
+    (handed_on c.from_residual.result c.in_err-check.field-0.0 c.from_residual.ensures.1)
+    ∙ unopened (machine c.args.plan.now choose route) t c.in_err-check.field-0.0
+    (check_stops _ _ (c.tables_long_enough-long.ensures choose route) TableTooShort [] _ c.in_err-check.ensures)
 
-pub empty-queues-requires : goal.empty-queues-requires
-empty-queues-requires g c =
+pub empty_queues-requires : goal.empty_queues-requires
+empty_queues-requires g c =
     let l = long c.args.plan.now some_choice some_route _
-    (sym (c.tables-long-enough-long.ensures some_choice some_route) ∙ passed _ _ c.in-ok-check.ensures) in
-    let n = queues_counted c.args.plan.now _ c.queues-needed-n.ensures in
+    (sym (c.tables_long_enough-long.ensures some_choice some_route) ∙ passed _ _ c.in_ok-check.ensures) in
+    let n = queues_counted c.args.plan.now _ c.queues_needed-n.ensures in
     omega arith
 
-pub clear-words-requires : goal.clear-words-requires
-clear-words-requires g c =
+pub clear_words-requires : goal.clear_words-requires
+clear_words-requires g c =
     let l = long c.args.plan.now some_choice some_route _
-    (sym (c.tables-long-enough-long.ensures some_choice some_route) ∙ passed _ _ c.in-ok-check.ensures) in
-    let n = queues_counted c.args.plan.now _ c.queues-needed-n.ensures in
+    (sym (c.tables_long_enough-long.ensures some_choice some_route) ∙ passed _ _ c.in_ok-check.ensures) in
+    let n = queues_counted c.args.plan.now _ c.queues_needed-n.ensures in
     omega arith
 
 pub returns : goal.returns
@@ -40,10 +40,10 @@ unfolding lengths opening_refusal opened
 returns g c = λ choose route.
     let a = c.args in
     let t = tables {P = g.row.P.Denot} a.cycle.now a.queues.now a.places.now a.payloads.now a.words.now in
-    let u = tables {P = g.row.P.Denot} 0 c.empty-queues.new.queues c.args.places.now c.args.payloads.now c.clear-words.new.words in
-    let n = c.queues-needed-n.ensures choose route in
-    let queued = c.empty-queues.ensures ∙ ap (λ k. edit 0 k (λ _ _. no_packets) c.args.queues.now) n in
-    let worded = c.clear-words.ensures ∙ ap (λ k. edit 0 k (λ _ _. 0) c.args.words.now) n in
+    let u = tables {P = g.row.P.Denot} 0 c.empty_queues.new.queues c.args.places.now c.args.payloads.now c.clear_words.new.words in
+    let n = c.queues_needed-n.ensures choose route in
+    let queued = c.empty_queues.ensures ∙ ap (λ k. edit 0 k (λ _ _. no_packets) c.args.queues.now) n in
+    let worded = c.clear_words.ensures ∙ ap (λ k. edit 0 k (λ _ _. 0) c.args.words.now) n in
     opens (machine c.args.plan.now choose route) t u
-    (check_passes _ _ (c.tables-long-enough-long.ensures choose route) TableTooShort [] c.in-ok-check.ensures)
+    (check_passes _ _ (c.tables_long_enough-long.ensures choose route) TableTooShort [] c.in_ok-check.ensures)
     (λ i. tables {P = g.row.P.Denot} 0 (queued i) c.args.places.now c.args.payloads.now (worded i))

@@ -27,8 +27,8 @@ returns-then-x-eq0 g c =
     let f = sound_held c.args.plan.now c.args.cycle c.args.places.now c.args.q c.args.x.first in
     sym (ap (all_below f) c.if-x-eq0.true ∙ none_below f)
 
-pub offset-bounds-places-q : goal.offset-bounds-places-q
-offset-bounds-places-q g c =
+pub offset_bounds-places-q : goal.offset_bounds-places-q
+offset_bounds-places-q g c =
     let e = c.requires.deep in
     let h : c.args.q * g.row.B + c.loop-s.s < queue_count c.args.plan.now * c.args.plan.now.sizes.depth =
     rw e (place_in c.args.plan.now c.args.q c.loop-s.s c.requires.queue (omega arith)) in

@@ -16,4 +16,4 @@ unfolding sound_queue
 returns g c =
     let first = lt-ltb _ _ (rw c.requires.deep at c.if-x.false) in
     let count = le-leb _ _ (rw c.requires.deep at c.if-x-2.false) in
-    rw (first, count) c.packets-sound.ensures
+    rw (first, count) c.packets_sound.ensures

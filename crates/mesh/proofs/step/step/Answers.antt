@@ -23,9 +23,9 @@ returns-then-not-long g c =
     let route = g.R.RouteRule.meaning c.args.rule.now in
     let m : Machine = machine plan choose route in
     let t = tables c.args.cycle.now c.args.queues.now c.args.places.now c.args.payloads.now c.args.words.now in
-    let is = long_is m t c.args.deliveries.now c.args.delivered.now c.tables-long-enough.result
-    c.deliveries-long-enough.result
-    (c.tables-long-enough.ensures choose route) (c.deliveries-long-enough.ensures choose route) in
+    let is = long_is m t c.args.deliveries.now c.args.delivered.now c.tables_long_enough.result
+    c.deliveries_long_enough.result
+    (c.tables_long_enough.ensures choose route) (c.deliveries_long_enough.ensures choose route) in
     refuses_short m t c.args.deliveries.now c.args.delivered.now (sym is ∙ c.if-not-long.true)
 
 pub sound-requires : goal.sound-requires
@@ -34,7 +34,7 @@ sound-requires g c =
     let t = tables c.args.cycle.now c.args.queues.now c.args.places.now c.args.payloads.now c.args.words.now in
     let both = and_parts _ _ c.if-not-long.false in
     let l = long plan (length t.queues) (length t.places) (length t.payloads) (length t.words)
-    (λ choose route. sym both.0 ∙ c.tables-long-enough.ensures choose route) in
+    (λ choose route. sym both.0 ∙ c.tables_long_enough.ensures choose route) in
     record { queues_in = l.queues_in; long = l.places_in }
 
 pub returns-then-not-sound : goal.returns-then-not-sound
@@ -44,12 +44,12 @@ returns-then-not-sound g c =
     let route = g.R.RouteRule.meaning c.args.rule.now in
     let m : Machine = machine plan choose route in
     let t = tables c.args.cycle.now c.args.queues.now c.args.places.now c.args.payloads.now c.args.words.now in
-    let is = long_is m t c.args.deliveries.now c.args.delivered.now c.tables-long-enough.result
-    c.deliveries-long-enough.result
-    (c.tables-long-enough.ensures choose route) (c.deliveries-long-enough.ensures choose route) in
+    let is = long_is m t c.args.deliveries.now c.args.delivered.now c.tables_long_enough.result
+    c.deliveries_long_enough.result
+    (c.tables_long_enough.ensures choose route) (c.deliveries_long_enough.ensures choose route) in
     let both = and_parts _ _ c.if-not-long.false in
     let l = long plan (length t.queues) (length t.places) (length t.payloads) (length t.words)
-    (λ choose route. sym both.0 ∙ c.tables-long-enough.ensures choose route) in
+    (λ choose route. sym both.0 ∙ c.tables_long_enough.ensures choose route) in
     let same = sound_same plan choose route t l.payloads_in in
     refuses_unsound m t c.args.deliveries.now c.args.delivered.now (sym is ∙ c.if-not-long.false)
     (same ∙ sym c.if-not-sound.ensures)
@@ -61,24 +61,24 @@ returns-then-present g c =
     let route = g.R.RouteRule.meaning c.args.rule.now in
     let m : Machine = machine plan choose route in
     let t = tables c.args.cycle.now c.args.queues.now c.args.places.now c.args.payloads.now c.args.words.now in
-    let is = long_is m t c.args.deliveries.now c.args.delivered.now c.tables-long-enough.result
-    c.deliveries-long-enough.result
-    (c.tables-long-enough.ensures choose route) (c.deliveries-long-enough.ensures choose route) in
+    let is = long_is m t c.args.deliveries.now c.args.delivered.now c.tables_long_enough.result
+    c.deliveries_long_enough.result
+    (c.tables_long_enough.ensures choose route) (c.deliveries_long_enough.ensures choose route) in
     let both = and_parts _ _ c.if-not-long.false in
     let l = long plan (length t.queues) (length t.places) (length t.payloads) (length t.words)
-    (λ choose route. sym both.0 ∙ c.tables-long-enough.ensures choose route) in
+    (λ choose route. sym both.0 ∙ c.tables_long_enough.ensures choose route) in
     let same = sound_same plan choose route t l.payloads_in in
     refuses_spent m t c.args.deliveries.now c.args.delivered.now (sym is ∙ c.if-not-long.false)
     (same ∙ sym c.if-not-sound.ensures)
     (le-ltb c.args.cycle.now 4294967295 (omega arith))
 
-pub choose-all-moves-requires : goal.choose-all-moves-requires
-choose-all-moves-requires g c =
+pub choose_all-moves-requires : goal.choose_all-moves-requires
+choose_all-moves-requires g c =
     let plan = c.args.plan.now in
     let t = tables c.args.cycle.now c.args.queues.now c.args.places.now c.args.payloads.now c.args.words.now in
     let both = and_parts _ _ c.if-not-long.false in
     let l = long plan (length t.queues) (length t.places) (length t.payloads) (length t.words)
-    (λ choose route. sym both.0 ∙ c.tables-long-enough.ensures choose route) in
+    (λ choose route. sym both.0 ∙ c.tables_long_enough.ensures choose route) in
     let known = lent plan t l (sym c.if-not-sound.ensures) in
     record { fit = known.fit; words_in = l.words_in }
 
@@ -90,29 +90,29 @@ deliver-requires g c =
     let t = tables c.args.cycle.now c.args.queues.now c.args.places.now c.args.payloads.now c.args.words.now in
     let both = and_parts _ _ c.if-not-long.false in
     let l = long plan (length t.queues) (length t.places) (length t.payloads) (length t.words)
-    (λ choose route. sym both.0 ∙ c.tables-long-enough.ensures choose route) in
+    (λ choose route. sym both.0 ∙ c.tables_long_enough.ensures choose route) in
     let known = lent plan t l (sym c.if-not-sound.ensures) in
     let lawful = lawful_by choose (g.met.A.Arbiter.arbitrates c.args.arbiter.now) in
     let d = deliveries_long plan (length c.args.deliveries.now) (length c.args.delivered.now)
-    (λ choose route. sym both.1 ∙ c.deliveries-long-enough.ensures choose route) in
+    (λ choose route. sym both.1 ∙ c.deliveries_long_enough.ensures choose route) in
     let F : List Move → Type 0 = λ ms. (k : ℕ) → (get_or ms k idle).from < length c.args.payloads.now in
     let o = orderly_moves plan choose route t known lawful in
     let long_payloads = l.payloads_in in
     record {
-      deliveries-in = d.0;
-      delivered-in = d.1;
-      froms = subst F (sym c.choose-all-moves.ensures) (λ k. let h = o.froms k in omega arith);
+      deliveries_in = d.0;
+      delivered_in = d.1;
+      froms = subst F (sym c.choose_all-moves.ensures) (λ k. let h = o.froms k in omega arith);
     }
 
-pub make-moves-requires : goal.make-moves-requires
-make-moves-requires g c =
+pub make_moves-requires : goal.make_moves-requires
+make_moves-requires g c =
     let choose = g.A.Arbiter.meaning c.args.arbiter.now in
     let route = g.R.RouteRule.meaning c.args.rule.now in
     let plan = c.args.plan.now in
     let t = tables c.args.cycle.now c.args.queues.now c.args.places.now c.args.payloads.now c.args.words.now in
     let both = and_parts _ _ c.if-not-long.false in
     let l = long plan (length t.queues) (length t.places) (length t.payloads) (length t.words)
-    (λ choose route. sym both.0 ∙ c.tables-long-enough.ensures choose route) in
+    (λ choose route. sym both.0 ∙ c.tables_long_enough.ensures choose route) in
     let known = lent plan t l (sym c.if-not-sound.ensures) in
     let lawful = lawful_by choose (g.met.A.Arbiter.arbitrates c.args.arbiter.now) in
     let O : List Move → Type 0 = λ ms. Orderly plan c.args.queues.now ms in
@@ -120,7 +120,7 @@ make-moves-requires g c =
       fit = known.fit;
       payloads_in = l.payloads_in;
       words_in = l.words_in;
-      orderly = subst O (sym c.choose-all-moves.ensures) (orderly_moves plan choose route t known lawful);
+      orderly = subst O (sym c.choose_all-moves.ensures) (orderly_moves plan choose route t known lawful);
     }
 
 pub returns : goal.returns
@@ -130,21 +130,21 @@ returns g c =
     let route = g.R.RouteRule.meaning c.args.rule.now in
     let m : Machine = machine plan choose route in
     let t = tables c.args.cycle.now c.args.queues.now c.args.places.now c.args.payloads.now c.args.words.now in
-    let is = long_is m t c.args.deliveries.now c.args.delivered.now c.tables-long-enough.result
-    c.deliveries-long-enough.result
-    (c.tables-long-enough.ensures choose route) (c.deliveries-long-enough.ensures choose route) in
+    let is = long_is m t c.args.deliveries.now c.args.delivered.now c.tables_long_enough.result
+    c.deliveries_long_enough.result
+    (c.tables_long_enough.ensures choose route) (c.deliveries_long_enough.ensures choose route) in
     let both = and_parts _ _ c.if-not-long.false in
     let l = long plan (length t.queues) (length t.places) (length t.payloads) (length t.words)
-    (λ choose route. sym both.0 ∙ c.tables-long-enough.ensures choose route) in
+    (λ choose route. sym both.0 ∙ c.tables_long_enough.ensures choose route) in
     let same = sound_same plan choose route t l.payloads_in in
     let known = lent plan t l (sym c.if-not-sound.ensures) in
     let lawful = lawful_by choose (g.met.A.Arbiter.arbitrates c.args.arbiter.now) in
-    let e = c.choose-all-moves.ensures in
+    let e = c.choose_all-moves.ensures in
     let n = queue_count plan in
-    let done = c.make-moves.ensures in
+    let done = c.make_moves.ensures in
     let next =
-    tables (c.args.cycle.now + 1) c.make-moves.new.queues c.make-moves.new.places c.make-moves.new.payloads
-    c.make-moves.new.words in
+    tables (c.args.cycle.now + 1) c.make_moves.new.queues c.make_moves.new.places c.make_moves.new.payloads
+    c.make_moves.new.words in
     runs m t c.args.deliveries.now c.args.delivered.now (sym is ∙ c.if-not-long.false) (same ∙ sym c.if-not-sound.ensures)
     (lt-ltb c.args.cycle.now 4294967295 (omega arith)) next c.deliver.new.deliveries c.deliver.new.delivered refl
     (done.queued ∙ ap (λ ms. edit 0 n (queue_after plan ms) t.queues) e ∙ queues_cycled plan choose route t known lawful)

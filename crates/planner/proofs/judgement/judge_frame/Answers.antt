@@ -14,6 +14,6 @@ returns-in-Err c =
     let slots = at.slots.now in
     let p : PlanValue = record { sizes = at.sizes; arbiter = at.arbiter; route = at.route; payload = at.payload; slots = slots } in
     let new = timetable at.sizes slots (built at.sizes (length slots)) in
-    let refused = turned_away p Built new (timetable_of c.args.plan.now) (timetable_of c.adopt-built.new.self) (verdict new)
+    let refused = turned_away p Built new (timetable_of c.args.plan.now) (timetable_of c.adopt_built.new.self) (verdict new)
     c.in-Err.refusal c.in-Err.ensures.left in
     rw at.is refused

@@ -1,6 +1,6 @@
 -- Values found by their numbers.
 use Rattle.std.proofs.Common.{◌≡◌, ℕ, zero, suc, ◌+◌, ◌<◌, ◌≤◌, Bool, true, false, cond, eqb, List, [], ◌∷◌, map, Some, Option, refl, subst, inl, inr, arith}
-use Rattle.std.specs.List.{range_with_len, AllByRecursion as All}
+use Rattle.std.specs.List.{range_with_len, AllByRecursion}
 use Rattle.std.proofs.lemmas.Bool.{cases_eq, eqb-true}
 use Rattle.frames.specs.Numbered.{named}
 
@@ -14,7 +14,7 @@ module _ {K : Type 0} (number : K → ℕ) (P : K → Type 0) where
   found_at k x rest n false e p more h = more h
 
   -- what is found has the number, and whatever all of the values have
-  pub found_right : (ks : List K) → All P ks → (k : K) (n : ℕ) → named number ks n ≡ Some k → (number k ≡ n) × P k
+  pub found_right : (ks : List K) → AllByRecursion P ks → (k : K) (n : ℕ) → named number ks n ≡ Some k → (number k ≡ n) × P k
   found_right [] all k n h = absurd (let z : ◌≡◌ {A = ℕ} 0 1 = cc in omega arith)
   found_right (x ∷ ks) all k n h =
       found_at k x (named number ks n) n (eqb (number x) n) refl all.0 (found_right ks all.1 k n) h
@@ -36,6 +36,6 @@ same_counting f g a (suc n) e k low high =
       | inr there ↦ same_counting f g (a + 1) n rest k (omega arith) (omega arith)
     ]
 
-pub counting_below : (a n m : ℕ) → a + n ≤ m → All (λ v. v < m) (range_with_len a n)
+pub counting_below : (a n m : ℕ) → a + n ≤ m → AllByRecursion (λ v. v < m) (range_with_len a n)
 counting_below a zero m h = tt
 counting_below a (suc n) m h = (omega arith, counting_below (a + 1) n m (omega arith))

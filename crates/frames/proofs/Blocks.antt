@@ -1,6 +1,6 @@
 -- How a block's lines are found: by the place of the first line feed, one line after the other.
 use Rattle.std.proofs.Common.{◌≡◌, ℕ, suc, ◌-◌, ◌<◌, ◌≤◌, Bool, true, false, cond, eqb, ◌⊎◌, List, [], ◌∷◌, ◌++◌, length, take, drop, Some, None, Option, sym, refl, ap, ◌∙◌, subst, inl, inr, arith, MatchOption}
-use Rattle.std.specs.List.{flat_map, AllByRecursion as All}
+use Rattle.std.specs.List.{flat_map, AllByRecursion}
 use Rattle.std.proofs.lemmas.List.{drop_all, take_rest}
 use Rattle.std.proofs.lemmas.Bool.{cases_lt, cases_eq, cond-false, eq-eqb, ne_eqb}
 use Rattle.frames.specs.Lines.{LineText, ended, unended, line_feed, feed_place, after_line, begun}
@@ -107,13 +107,13 @@ joined_whole [] = refl
 joined_whole (x ∷ xs) = joined_at x xs (joined_whole xs) (cases_eq x line_feed)
 
 all_lines_ended :
-    (text rest : List ℕ) → All (λ b. b ≡ line_feed → ⊥) text
+    (text rest : List ℕ) → AllByRecursion (λ b. b ≡ line_feed → ⊥) text
     → all_lines ((text ++ line_feed ∷ []) ++ rest) ≡ ended text ∷ all_lines rest
 all_lines_ended [] rest h = refl
 all_lines_ended (x ∷ xs) rest h =
     step x ((xs ++ line_feed ∷ []) ++ rest) h.0 ∙ ap (begun x) (all_lines_ended xs rest h.1)
 
-all_lines_unended : (text : List ℕ) → All (λ b. b ≡ line_feed → ⊥) text → all_lines (text ++ []) ≡ only text
+all_lines_unended : (text : List ℕ) → AllByRecursion (λ b. b ≡ line_feed → ⊥) text → all_lines (text ++ []) ≡ only text
 all_lines_unended [] h = refl
 all_lines_unended (x ∷ xs) h =
     step x (xs ++ []) h.0 ∙ (ap (begun x) (all_lines_unended xs h.1) ∙ begun_only x xs)

@@ -1,6 +1,6 @@
 -- Hexadecimal digits and bytes: one spelling each.
 use Rattle.std.proofs.Common.{◌≡◌, ℕ, ◌+◌, ◌*◌, ◌/◌, ◌%◌, ◌<◌, List, [], ◌∷◌, Some, None, Option, sym, refl, ap, ◌∙◌, arith}
-use Rattle.std.specs.List.{range_with_len, AllByRecursion as All}
+use Rattle.std.specs.List.{range_with_len, AllByRecursion}
 use Rattle.frames.specs.Hex.{digit, digit_value, hex_of, bytes_of, paired, OneSpelling}
 use Rattle.frames.proofs.Apart.{found_right, same_counting, counting_below}
 
@@ -13,7 +13,7 @@ digit_written v c h = found_right digit (λ k. k < 16) (range_with_len 0 16) (co
 byte_back : (b : ℕ) (bs : List ℕ) → b < 256 → paired (Some (b / 16)) (Some (b % 16)) (Some bs) ≡ Some (b ∷ bs)
 byte_back b bs h = let e : b / 16 * 16 + b % 16 ≡ b = omega arith in rw e
 
-bytes_back : (bytes : List ℕ) → All (λ b. b < 256) bytes → bytes_of (hex_of bytes) ≡ Some bytes
+bytes_back : (bytes : List ℕ) → AllByRecursion (λ b. b < 256) bytes → bytes_of (hex_of bytes) ≡ Some bytes
 bytes_back [] h = refl
 bytes_back (b ∷ bs) h =
     let high : b / 16 < 16 = omega arith in

@@ -1,6 +1,6 @@
 -- Bytes and their text: two lowercase hexadecimal digits a byte, the high one first.
 use Rattle.std.specs.Prelude.{◌≡◌, ℕ, ◌+◌, ◌*◌, ◌/◌, ◌%◌, ◌<◌, List, [], ◌∷◌, ◌++◌, Some, None, codes, Option, slice_index}
-use Rattle.std.specs.List.{range_with_len, AllByRecursion as All}
+use Rattle.std.specs.List.{range_with_len, AllByRecursion}
 use Rattle.frames.specs.Lines.{line_feed}
 use Rattle.frames.specs.Numbered.{named}
 
@@ -36,5 +36,5 @@ bytes_of (high ∷ low ∷ text) = paired (digit_value high) (digit_value low) (
 abbrev pub OneSpelling : Type 0
 OneSpelling =
     (bytes text : List ℕ)
-    → (All (λ byte. byte < 256) bytes → hex_of bytes ≡ text → bytes_of text ≡ Some bytes)
+    → (AllByRecursion (λ byte. byte < 256) bytes → hex_of bytes ≡ text → bytes_of text ≡ Some bytes)
     × (bytes_of text ≡ Some bytes → hex_of bytes ≡ text)

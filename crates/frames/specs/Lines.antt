@@ -1,6 +1,6 @@
 -- The lines of a block of bytes.
 use Rattle.std.specs.Prelude.{◌≡◌, ℕ, suc, ◌<◌, cond, List, [], ◌∷◌, ◌++◌, length, drop, Some, None, Option, MatchOption, ◌==◌, ◌≢◌}
-use Rattle.std.specs.List.{flat_map, AllByRecursion as All}
+use Rattle.std.specs.List.{flat_map, AllByRecursion}
 use Rattle.frames.specs.declared.lines.Line.{Line}
 use Rattle.frames.specs.declared.lines.Line.TheVariants.{Ended, Unended}
 use Rattle.frames.specs.declared.lines.Lines.{Lines}
@@ -55,8 +55,8 @@ line_bytes (unended text) = text
 -- no text holds a line feed; only the last line can be unended, and it is then not empty
 abbrev pub Orderly : List LineText → Type 0
 Orderly [] = Unit {0}
-Orderly (ended text ∷ lines) = All (λ b. b ≢ line_feed) text × Orderly lines
-Orderly (unended text ∷ lines) = All (λ b. b ≢ line_feed) text × (0 < length text) × (lines ≡ [])
+Orderly (ended text ∷ lines) = AllByRecursion (λ b. b ≢ line_feed) text × Orderly lines
+Orderly (unended text ∷ lines) = AllByRecursion (λ b. b ≢ line_feed) text × (0 < length text) × (lines ≡ [])
 
 -- the lines of a block are orderly and, put together, are the block; no other lines are
 abbrev pub Whole : List ℕ → Type 0

@@ -33,7 +33,7 @@ fn plan(rt: HostRuntime) -> Result<(), Fail> {
         [arbiter.number(), route.number(), payload.number()],
         [1, 0, 0]
     );
-    assert_eq!(rt; slots, &[0, 1]);
+    assert_eq!(rt; slots, [0, 1].as_slice());
     Ok(())
 }
 
@@ -69,7 +69,7 @@ fn steps(rt: HostRuntime) -> Result<(), Fail> {
 fn delivery(rt: HostRuntime) -> Result<(), Fail> {
     let mut line = Vec::new(rt.alloc());
     append_line(&mut line, &delivery_frame(1, 1, 0, 0, [0, 0, 1, 44]))?;
-    assert_eq!(rt; line.as_slice(), b"04000000010100000000012c\n");
+    assert_eq!(rt; line.as_slice(), b"04000000010100000000012c\n".as_slice());
     assert_eq!(rt; refusal_frame(Refusal::NotAFrame), [5, 1]);
     Ok(())
 }

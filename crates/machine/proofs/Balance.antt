@@ -1,6 +1,6 @@
 -- What a domain held before a cycle is what it is given and holds after it; so nothing is lost over its calls.
 use Rattle.std.proofs.Common.{◌≡◌, ℕ, zero, suc, ◌+◌, ◌<◌, Bool, true, false, cond, ◌&&◌, eqb, List, [], ◌∷◌, map, length, take, Ok, Err, sym, refl, ap, ◌∙◌, subst, ap₂, ⊎_elim, arith}
-use Rattle.std.specs.List.{range_with_len, flat_map, AllByRecursion as All}
+use Rattle.std.specs.List.{range_with_len, flat_map, AllByRecursion}
 use Rattle.std.proofs.lemmas.List.{length-append, length-map}
 use Rattle.std.proofs.lemmas.Bool.{and_parts, and_from, and_left, and_right, eqb-true, eq-eqb, ne_eqb, cases_eq, cond-true, cond-false, cases_Bool}
 use Rattle.machine.specs.Machine.{Machine, routers, towards, beyond, opposite}
@@ -80,7 +80,7 @@ module _ {P : Type 0} (c : Machine) (laws : Lawful c) (d : ℕ) (v : View P) (go
       go : (b : Bool) → leaves c d v r i ≡ b → (q : List (Packet P)) → v.queue r i ≡ q → total 5 (λ p. row r p i) ≡ length (goes c d v r i)
       go true l [] q = absurd (omega (arith, leaves_some c d v r i l, ap length q))
       go true l (x ∷ xs) q =
-          let a : All (OnWay c r i) (x ∷ xs) = subst (All (OnWay c r i)) q (good r i) in
+          let a : AllByRecursion (OnWay c r i) (x ∷ xs) = subst (AllByRecursion (OnWay c r i)) q (good r i) in
           let w : ℕ = towards c r x.destination in
           let by = leaves_by r i x xs q l in
           let g = granted c laws d v r w by.0 in

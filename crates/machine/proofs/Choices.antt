@@ -1,6 +1,6 @@
 -- What the choices of a cycle keep to, for any view.
 use Rattle.std.proofs.Common.{◌≡◌, ℕ, ◌+◌, ◌-◌, ◌<◌, ◌≤◌, Bool, true, false, cond, ◌&&◌, ◌||◌, eqb, ltb, List, [], ◌∷◌, map, length, take, refl, ap, ◌∙◌, ⊎_elim, arith}
-use Rattle.std.specs.List.{flat_map, AllByRecursion as All}
+use Rattle.std.specs.List.{flat_map, AllByRecursion}
 use Rattle.std.proofs.lemmas.List.{length-take, length-map, append-nil}
 use Rattle.std.proofs.ByRecursion.{All-take, All-map, All-weaker}
 use Rattle.std.proofs.lemmas.Bool.{and_parts, ltb-true, or_cases, eqb-true}
@@ -82,16 +82,16 @@ module _ {P : Type 0} (c : Machine) (d : ℕ) (v : View P) where
       let f = grants_room p.0 (opposite i) r b.3 b.1 (sends_grants p.0 (opposite i) l) in
       rw b.2 at f) (beyond_cases c r i)
 
-  cond_all : (Q : Packet P → Type 0) (b : Bool) (xs : List (Packet P)) → All Q xs → All Q (cond b (take 1 xs) [])
+  cond_all : (Q : Packet P → Type 0) (b : Bool) (xs : List (Packet P)) → AllByRecursion Q xs → AllByRecursion Q (cond b (take 1 xs) [])
   cond_all Q true xs a = All-take Q 1 xs a
   cond_all Q false xs a = tt
 
-  sends_all : (Q : Packet P → Type 0) → ((r i : ℕ) → All Q (v.queue r i)) → (r p : ℕ) → All Q (sends c d v r p)
+  sends_all : (Q : Packet P → Type 0) → ((r i : ℕ) → AllByRecursion Q (v.queue r i)) → (r p : ℕ) → AllByRecursion Q (sends c d v r p)
   unfolding sends
   sends_all Q a r p = cond_all Q (grants c d v r p) _ (a r (winner c v r p))
 
-  pub joins_ok : 0 < hop c → ((r i : ℕ) → All (InLimits c v.cycle) (v.queue r i)) → (r i : ℕ)
-      → All (InLimits c (v.cycle + 1)) (joins c d v r i)
+  pub joins_ok : 0 < hop c → ((r i : ℕ) → AllByRecursion (InLimits c v.cycle) (v.queue r i)) → (r i : ℕ)
+      → AllByRecursion (InLimits c (v.cycle + 1)) (joins c d v r i)
   unfolding ready_at
   joins_ok hop_some a r i = ⊎_elim (λ (e : beyond c r i ≡ []). rw (joins_none r i e) tt)
       (λ (p : (s : ℕ) × (beyond c r i ≡ s ∷ [])).

@@ -1,6 +1,6 @@
 -- Through every call of a domain's own machine each of its packets is at a queue of its way.
 use Rattle.std.proofs.Common.{◌≡◌, ℕ, ◌<◌, Bool, true, false, cond, ◌&&◌, eqb, List, [], ◌∷◌, sym, refl, arith}
-use Rattle.std.specs.List.{AllByRecursion as All}
+use Rattle.std.specs.List.{AllByRecursion}
 use Rattle.std.proofs.ByRecursion.{All-append}
 use Rattle.std.proofs.lemmas.Bool.{eqb-true}
 use Rattle.machine.specs.Calls.{fresh}
@@ -18,7 +18,7 @@ module _ {P : Type 0} (c : Machine) (v : View P) (good : AllOnWay c v) (r f : �
   unfolding added fresh track
   on_way_added a i = go (inside c a i) refl
     where
-      new : (b g : Bool) → eqb a r ≡ b → eqb i 4 ≡ g → All (OnWay c a i) (cond (b && g) (fresh v.cycle r f x ∷ []) [])
+      new : (b g : Bool) → eqb a r ≡ b → eqb i 4 ≡ g → AllByRecursion (OnWay c a i) (cond (b && g) (fresh v.cycle r f x ∷ []) [])
       new true true p q = (
         record {
           destination = hf;
@@ -32,7 +32,7 @@ module _ {P : Type 0} (c : Machine) (v : View P) (good : AllOnWay c v) (r f : �
       new true false p q = tt
       new false g p q = tt
 
-      go : (b : Bool) → inside c a i ≡ b → All (OnWay c a i) ((added c r (fresh v.cycle r f x) v).queue a i)
+      go : (b : Bool) → inside c a i ≡ b → AllByRecursion (OnWay c a i) ((added c r (fresh v.cycle r f x) v).queue a i)
       go true h = rw h (All-append _ _ _ (good a i) (new (eqb a r) (eqb i 4) refl refl))
       go false h = rw h tt
 

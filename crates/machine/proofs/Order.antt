@@ -1,6 +1,6 @@
 -- What is underway from a source to a destination is what was accepted and has not come home, in that order.
 use Rattle.std.proofs.Common.{◌≡◌, ℕ, zero, suc, ◌+◌, ◌<◌, ◌≤◌, Bool, true, false, cond, ◌&&◌, eqb, List, [], ◌∷◌, ◌++◌, map, Ok, Err, sym, refl, ap, ◌∙◌, subst, ap₂, ⊎_elim, arith}
-use Rattle.std.specs.List.{range_with_len, flat_map, AllByRecursion as All}
+use Rattle.std.specs.List.{range_with_len, flat_map, AllByRecursion}
 use Rattle.std.proofs.lemmas.List.{append_assoc, append-nil}
 use Rattle.std.proofs.lemmas.Bool.{and_right, eq-eqb, ne_eqb, cases_eq, cond-true}
 use Rattle.machine.specs.Machine.{Machine, routers}
@@ -41,8 +41,8 @@ module _ {P : Type 0} (c : Machine) (laws : Lawful c) (s e : ℕ) (hs : s < rout
         go : (f : Bool) → grants c d v e 4 ≡ f → came s e (map (arrival v.cycle e) (sends c d v e 4)) ≡ flow s e (sends c d v e 4)
         go true f =
             let g = granted c laws d v e 4 f in
-            let a : All (OnWay c e (winner c v e 4)) (g.x ∷ g.xs) =
-            subst (All (OnWay c e (winner c v e 4))) g.queue (good e (winner c v e 4)) in
+            let a : AllByRecursion (OnWay c e (winner c v e 4)) (g.x ∷ g.xs) =
+            subst (AllByRecursion (OnWay c e (winner c v e 4))) g.queue (good e (winner c v e 4)) in
             rw g.sends (home_as g.x (sym (laws.only_arrived e g.x.destination he a.0.destination g.way)))
         go false f = rw f
 

@@ -1,6 +1,6 @@
 -- Tables that are sound stay so through every move of a cycle and of an injection.
 use Rattle.std.proofs.Common.{◌≡◌, ℕ, zero, suc, ◌+◌, ◌-◌, ◌<◌, ◌≤◌, Bool, true, false, cond, eqb, List, [], ◌∷◌, length, drop, sym, refl, ap, ◌∙◌, subst, arith}
-use Rattle.std.specs.List.{AllByRecursion as All}
+use Rattle.std.specs.List.{AllByRecursion}
 use Rattle.std.proofs.ByRecursion.{All-drop, All-weaker, All-append}
 use Rattle.std.proofs.lemmas.Bool.{and_from, lt-ltb, le-leb, eqb-true}
 use Rattle.machine.specs.Cycle.{bit}
@@ -18,7 +18,7 @@ use Rattle.machine.proofs.Views.{queue_in, queue_out}
 pub record SoundQueue {P : Type 0} (c : Machine) (t : Tables P) (q : ℕ) : Type 0 where
   pub first : (queue_at t q).first < depth c
   pub count : (queue_at t q).count ≤ depth c
-  pub within : All (InLimits c t.cycle) (packets c t q)
+  pub within : AllByRecursion (InLimits c t.cycle) (packets c t q)
 
 -- tables of just the needed lengths with every queue sound
 pub record Intact {P : Type 0} (c : Machine) (t : Tables P) : Type 0 where
@@ -30,7 +30,7 @@ unfolding all_below
 all_below_from f zero h = refl
 all_below_from f (suc n) h = and_from _ _ (h n (omega arith)) (all_below_from f n (λ k l. h k (omega arith)))
 
-packets_pass : {P : Type 0} (c : Machine) (cycle : ℕ) (xs : List (Packet P)) → All (InLimits c cycle) xs → sound_packets c cycle xs ≡ true
+packets_pass : {P : Type 0} (c : Machine) (cycle : ℕ) (xs : List (Packet P)) → AllByRecursion (InLimits c cycle) xs → sound_packets c cycle xs ≡ true
 unfolding sound_packets sound_packet
 packets_pass c cycle [] a = refl
 packets_pass c cycle (x ∷ xs) a =
@@ -52,28 +52,28 @@ count_fits b n (suc k) true h f l = let e : n < b = f (omega arith) in omega ari
 count_fits b n (suc k) false h f l = let e : n < b = f (omega arith) in omega arith
 
 module _ {P : Type 0} (c : Machine) (kept : Kept c) (t : Tables P) (ok : Intact c t) where
-  view_within : (d : ℕ) → d < domains c → (r i : ℕ) → All (InLimits c t.cycle) ((view c t d).queue r i)
+  view_within : (d : ℕ) → d < domains c → (r i : ℕ) → AllByRecursion (InLimits c t.cycle) ((view c t d).queue r i)
   view_within d hd r i = go (inside c r i) refl
     where
-      go : (b : Bool) → inside c r i ≡ b → All (InLimits c t.cycle) ((view c t d).queue r i)
+      go : (b : Bool) → inside c r i ≡ b → AllByRecursion (InLimits c t.cycle) ((view c t d).queue r i)
       go true e = let p = inside_parts c r i e in
           rw (queue_in c t d r i e) (ok.queue _ (queue_number_lt c r i d p.0 p.1 hd)).within
       go false e = rw (queue_out c t d r i e) tt
 
-  later : (cycle q : ℕ) → t.cycle ≤ cycle → (leaving : Bool) → All (InLimits c t.cycle) (packets c t q)
-      → All (InLimits c cycle) (cond leaving (drop 1 (packets c t q)) (packets c t q))
+  later : (cycle q : ℕ) → t.cycle ≤ cycle → (leaving : Bool) → AllByRecursion (InLimits c t.cycle) (packets c t q)
+      → AllByRecursion (InLimits c cycle) (cond leaving (drop 1 (packets c t q)) (packets c t q))
   later cycle q le leaving a = go leaving
     where
-      all : All (InLimits c cycle) (packets c t q)
+      all : AllByRecursion (InLimits c cycle) (packets c t q)
       all = All-weaker _ _ (λ x o. record { destination = o.destination; source = o.source; ready = omega (arith, o.ready) }) _ a
 
-      go : (b : Bool) → All (InLimits c cycle) (cond b (drop 1 (packets c t q)) (packets c t q))
+      go : (b : Bool) → AllByRecursion (InLimits c cycle) (cond b (drop 1 (packets c t q)) (packets c t q))
       go true = All-drop _ 1 _ all
       go false = all
 
   -- after any possible moves
   intact_moved : (s : Moves P) (cycle : ℕ) → t.cycle ≤ cycle → ((q : ℕ) → q < queues c → Can c s t q)
-      → ((q : ℕ) → q < queues c → All (InLimits c cycle) (s.joining q)) → Intact c (moved c s cycle t)
+      → ((q : ℕ) → q < queues c → AllByRecursion (InLimits c cycle) (s.joining q)) → Intact c (moved c s cycle t)
   unfolding queue_after moved
   intact_moved s cycle le can on = record {
     exact = exact_moved c kept.depth_some t ok.exact s cycle;
@@ -120,7 +120,7 @@ module _ {P : Type 0} (c : Machine) (kept : Kept c) (t : Tables P) (ok : Intact 
     only_if true h = refl
     only_if false h = absurd (omega arith)
 
-    all_if : (b : Bool) → InLimits c t.cycle x → All (InLimits c t.cycle) (cond b (x ∷ []) [])
+    all_if : (b : Bool) → InLimits c t.cycle x → AllByRecursion (InLimits c t.cycle) (cond b (x ∷ []) [])
     all_if true o = (o, tt)
     all_if false o = tt
 

@@ -1,6 +1,6 @@
 -- The queues on the way from a source to a destination, one after another.
 use Rattle.std.proofs.Common.{◌≡◌, ℕ, zero, suc, ◌+◌, ◌<◌, ◌≤◌, Bool, true, false, cond, eqb, List, [], ◌∷◌, ◌++◌, map, drop, sym, refl, ap, ◌∙◌, subst, ap₂, ⊎_elim, arith}
-use Rattle.std.specs.List.{AllByRecursion as All}
+use Rattle.std.specs.List.{AllByRecursion}
 use Rattle.std.proofs.lemmas.List.{append_assoc, append-nil}
 use Rattle.std.proofs.ByRecursion.{All-drop, All-append}
 use Rattle.std.proofs.lemmas.Bool.{and_parts, eqb-true, cases_eq, cond-true}
@@ -78,7 +78,7 @@ pub record OnWay {P : Type 0} (c : Machine) (r i : ℕ) (x : Packet P) : Type 0 
   pub here : track c x.source x.destination k ≡ (r, i)
 
 abbrev pub AllOnWay : {P : Type 0} → Machine → View P → Type 0
-AllOnWay c v = (r i : ℕ) → All (OnWay c r i) (v.queue r i)
+AllOnWay c v = (r i : ℕ) → AllByRecursion (OnWay c r i) (v.queue r i)
 
 module _ {P : Type 0} (c : Machine) (laws : Lawful c) where
   on_way_left : (r i : ℕ) (x : Packet P) → (f : OnWay c r i x) → distance c r x.destination + f.k
@@ -117,30 +117,30 @@ module _ {P : Type 0} (c : Machine) (laws : Lawful c) where
 
   module _ (d : ℕ) (v : View P) (good : AllOnWay c v) where
     sends_on_way : (s r i : ℕ) → beyond c s (opposite i) ≡ r ∷ [] → opposite (opposite i) ≡ i → opposite i < 4 → (t : ℕ)
-        → All (OnWay c r i) (map (ready_at t) (sends c d v s (opposite i)))
+        → AllByRecursion (OnWay c r i) (map (ready_at t) (sends c d v s (opposite i)))
     unfolding sends
     sends_on_way s r i b o low t = go (grants c d v s (opposite i)) refl
       where
-        go : (f : Bool) → grants c d v s (opposite i) ≡ f → All (OnWay c r i) (map (ready_at t) (sends c d v s (opposite i)))
+        go : (f : Bool) → grants c d v s (opposite i) ≡ f → AllByRecursion (OnWay c r i) (map (ready_at t) (sends c d v s (opposite i)))
         go true f =
             let g = granted c laws d v s (opposite i) f in
-            let a : All (OnWay c s (winner c v s (opposite i))) (g.x ∷ g.xs) =
-            subst (All (OnWay c s (winner c v s (opposite i)))) g.queue (good s (winner c v s (opposite i))) in
+            let a : AllByRecursion (OnWay c s (winner c v s (opposite i))) (g.x ∷ g.xs) =
+            subst (AllByRecursion (OnWay c s (winner c v s (opposite i)))) g.queue (good s (winner c v s (opposite i))) in
             let h : OnWay c r (opposite (opposite i)) (ready_at t g.x) = on_way_next s _ r (opposite i) t g.x a.0 g.way low b in
             rw g.sends (subst (λ (j : ℕ). OnWay c r j (ready_at t g.x)) o h, tt)
         go false f = rw f tt
 
-    joins_fit : (r i : ℕ) → r < routers c → All (OnWay c r i) (joins c d v r i)
+    joins_fit : (r i : ℕ) → r < routers c → AllByRecursion (OnWay c r i) (joins c d v r i)
     joins_fit r i h = ⊎_elim (λ (e : beyond c r i ≡ []). rw (joins_none c d v r i e) tt)
         (λ (q : (s : ℕ) × (beyond c r i ≡ s ∷ [])).
         let b = beyond_back c r i q.0 h q.1 in rw (joins_from c d v r i q.0 q.1)
         (sends_on_way q.0 r i b.1 b.2 b.3 _)) (beyond_cases c r i)
 
-    stays_on_way : (r i : ℕ) → All (OnWay c r i) (stays c d v r i)
+    stays_on_way : (r i : ℕ) → AllByRecursion (OnWay c r i) (stays c d v r i)
     unfolding stays
     stays_on_way r i = go (leaves c d v r i)
       where
-        go : (b : Bool) → All (OnWay c r i) (cond b (drop 1 (v.queue r i)) (v.queue r i))
+        go : (b : Bool) → AllByRecursion (OnWay c r i) (cond b (drop 1 (v.queue r i)) (v.queue r i))
         go true = All-drop _ 1 _ (good r i)
         go false = good r i
 
@@ -152,7 +152,7 @@ module _ {P : Type 0} (c : Machine) (laws : Lawful c) where
     unfolding after stays
     on_way_after r i = go (inside c r i) refl
       where
-        go : (b : Bool) → inside c r i ≡ b → All (OnWay c r i) ((after c d v).queue r i)
+        go : (b : Bool) → inside c r i ≡ b → AllByRecursion (OnWay c r i) ((after c d v).queue r i)
         go true h = rw (after_queue r i h) (All-append _ _ _ (stays_on_way r i) (joins_fit r i (inside_parts c r i h).0))
         go false h = rw h tt
 
@@ -170,7 +170,7 @@ module _ {P : Type 0} (c : Machine) (laws : Lawful c) (d : ℕ) (v : View P) (go
       let p = and_parts (eqb x.source s) (eqb x.destination e) b in
       let es : x.source ≡ s = eqb-true _ _ p.0 in
       let ed : x.destination ≡ e = eqb-true _ _ p.1 in
-      let a : All (OnWay c (track c s e k).0 w) (x ∷ xs) = subst (All (OnWay c (track c s e k).0 w)) q (good (track c s e k).0 w) in
+      let a : AllByRecursion (OnWay c (track c s e k).0 w) (x ∷ xs) = subst (AllByRecursion (OnWay c (track c s e k).0 w)) q (good (track c s e k).0 w) in
       let g : OnWay c (track c s e k).0 (track c s e k).1 x = record {
         destination = a.0.destination;
         source = a.0.source;

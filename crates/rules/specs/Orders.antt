@@ -2,7 +2,7 @@
 use Rattle.std.specs.Prelude.{◌≡◌, ℕ, zero, suc, ◌*◌, ◌/◌, ◌%◌, ◌^◌, ◌<◌, true, false, ◌&&◌, ◌||◌, List, [], ◌∷◌, ◌++◌, length, ◌==◌, bit_and, bit_or, nat_eq, slice_index, refl}
 use Rattle.std.proofs.Common.{sym, ap, subst, ◌∙◌, ⊎_elim, pow-suc, arith}
 use Rattle.std.proofs.Math.Bool.{or_assoc, or-false}
-use Rattle.std.specs.List.{AllByRecursion as All}
+use Rattle.std.specs.List.{AllByRecursion}
 use Rattle.std.proofs.lemmas.Nat.{or_mod, or_shr, and_mask}
 use Rattle.std.proofs.lemmas.Bool.{both_ways, cases_Bool, cond_both, cond-true, cond-false, eqb-true, eq-eqb, ne_eqb}
 use Rattle.std.proofs.lemmas.Bool.Decides.{nat_tests}
@@ -29,7 +29,7 @@ five = by_five (λ order. order ≡ in_turn order) (λ a b c d e. refl)
 -- the first that asks, after some that do not, wins and goes to the end
 module _ (sides : ℕ) where
   abbrev pub Silent : List ℕ → Type 0
-  Silent = All (λ side. false ≡ asks sides side)
+  Silent = AllByRecursion (λ side. false ≡ asks sides side)
 
   first_wins : (before : List ℕ) (side : ℕ) (after : List ℕ) → Silent before → true ≡ asks sides side
       → first_asking sides (before ++ (side ∷ after)) ≡ side

@@ -12,11 +12,11 @@ returns-then-told-ne1 g c =
 pub returns : goal.returns
 returns g c =
     let on : eqb c.args.told.mark 1 ≡ true = grind (arith, nat_tests) in
-    let r = c.append-line.result in
+    let r = c.append_line.result in
     let out = vec_items c.args.out.now in
     let form = g.P.Payload.form in
     let line = table_line form c.args.cycle c.args.router c.args.told c.args.payload in
-    let same = line_on form c.args.cycle c.args.router c.args.told c.args.payload c.delivery-frame-frame.result _ on
-    c.delivery-frame-frame.ensures c.to-bytes.ensures in
-    written r out (vec_items c.append-line.new.out) line
-    (c.append-line.ensures.line ∙ ap (λ (l : List ℕ). out ++ cond (is_ok r) l []) same)
+    let same = line_on form c.args.cycle c.args.router c.args.told c.args.payload c.delivery_frame-frame.result _ on
+    c.delivery_frame-frame.ensures c.to_bytes.ensures in
+    written r out (vec_items c.append_line.new.out) line
+    (c.append_line.ensures.line ∙ ap (λ (l : List ℕ). out ++ cond (is_ok r) l []) same)

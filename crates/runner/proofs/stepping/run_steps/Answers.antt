@@ -14,19 +14,19 @@ use Rattle.runner.proofs.stepping.run_steps.Goals as goal
 no_deliveries : List Delivery
 no_deliveries = replicate 16 (record { mark = 0; domain = 0; source = 0 })
 
-pub append-deliveries-requires : goal.append-deliveries-requires
+pub append_deliveries-requires : goal.append_deliveries-requires
 unfolding routers no_deliveries
-append-deliveries-requires g c =
+append_deliveries-requires g c =
     let m = machine c.args.plan.now (arbiter_meant c.args.arbiter) (route_meant c.args.route) in
     let t = tables c.loop-done.cycle c.loop-done.queues c.loop-done.places c.loop-done.payloads c.loop-done.words in
-    let last = c.step-chosen-stepped.new in
+    let last = c.step_chosen-stepped.new in
     let taken = step_taken m t no_deliveries c.loop-done.delivered c.in-Ok.ran
     (outcome_of (Ok c.in-Ok.ran) (tables last.cycle last.queues last.places last.payloads last.words) last.deliveries last.delivered)
     refl c.in-Ok.ensures in
     let few = few_routers m t no_deliveries c.loop-done.delivered c.in-Ok.ran taken.0 in
     record {
-      deliveries-in = omega (arith, few.0, c.routers.ensures.is, c.step-chosen-stepped.auto.deliveries);
-      delivered-in = omega (arith, few.1, c.routers.ensures.is, c.step-chosen-stepped.auto.delivered);
+      deliveries_in = omega (arith, few.0, c.routers.ensures.is, c.step_chosen-stepped.auto.deliveries);
+      delivered_in = omega (arith, few.1, c.routers.ensures.is, c.step_chosen-stepped.auto.delivered);
     }
 
 pub returns-in-Err : goal.returns-in-Err
@@ -35,18 +35,18 @@ returns-in-Err g c =
     let form = g.P.Payload.form in
     let m = machine c.args.plan.now (arbiter_meant c.args.arbiter) (route_meant c.args.route) in
     let t = tables c.loop-done.cycle c.loop-done.queues c.loop-done.places c.loop-done.payloads c.loop-done.words in
-    let last = c.step-chosen-stepped.new in
+    let last = c.step_chosen-stepped.new in
     let after = tables last.cycle last.queues last.places last.payloads last.words in
     let out = vec_items c.loop-done.out in
-    let out' = vec_items c.append-refusal.new.out in
+    let out' = vec_items c.append_refusal.new.out in
     let k = c.args.count - (c.loop-done.done + 1) in
     let more : c.args.count - c.loop-done.done ≡ suc k = omega arith in
     let sixteen : length c.loop-done.delivered ≡ 16 = omega (arith, c.requires, c.loop-done.auto.delivered) in
     let inv : behind out (run_steps form m (suc k) t) ≡ _ = ap (λ (n : ℕ). behind out (run_steps form m n t)) (sym more) ∙ c.loop-done.invariant in
-    then c.append-refusal.result
+    then c.append_refusal.result
     (λ (w : out' ≡ _). no_step m t no_deliveries c.loop-done.delivered form k c.in-Err.why after last.deliveries last.delivered out out'
     refl sixteen c.in-Err.ensures w ∙ inv)
-    c.append-refusal.ensures
+    c.append_refusal.ensures
 
 pub loop-done-preserved : goal.loop-done-preserved
 unfolding no_deliveries routers
@@ -54,15 +54,15 @@ loop-done-preserved g c =
     let form = g.P.Payload.form in
     let m = machine c.args.plan.now (arbiter_meant c.args.arbiter) (route_meant c.args.route) in
     let t = tables c.loop-done.cycle c.loop-done.queues c.loop-done.places c.loop-done.payloads c.loop-done.words in
-    let last = c.step-chosen-stepped.new in
+    let last = c.step_chosen-stepped.new in
     let after = tables last.cycle last.queues last.places last.payloads last.words in
     let out = vec_items c.loop-done.out in
-    let out' = vec_items c.append-deliveries.new.out in
+    let out' = vec_items c.append_deliveries.new.out in
     let k = c.args.count - (c.loop-done.done + 1) in
     let more : c.args.count - c.loop-done.done ≡ suc k = omega arith in
     let sixteen : length c.loop-done.delivered ≡ 16 = omega (arith, c.requires, c.loop-done.auto.delivered) in
     let lines : out' ≡ out ++ table_lines form c.in-Ok.ran 0 (take (routers m) last.deliveries) (take (routers m) last.delivered) =
-    c.in-ok-append-deliveries.ensures
+    c.in_ok-append_deliveries-in-Ok.ensures
     ∙ ap (λ (n : ℕ). out ++ table_lines form c.in-Ok.ran 0 (take n last.deliveries) (take n last.delivered)) c.routers.ensures.is in
     one_step m t no_deliveries c.loop-done.delivered form k c.in-Ok.ran after last.deliveries last.delivered out out'
     refl sixteen c.in-Ok.ensures lines

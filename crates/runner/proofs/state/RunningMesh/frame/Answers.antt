@@ -10,20 +10,20 @@ use Rattle.runner.proofs.state.RunningMesh.frame.Goals as goal
 pub returns-in-Plan : goal.returns-in-Plan
 unfolding framed
 returns-in-Plan c =
-    then c.plan-frame.result
+    then c.plan_frame.result
     (λ e. e ∙ ap (λ (f : Frame). behind (vec_items c.args.out.now) (framed (frame_value f) (running c.args.self.now))) (sym c.in-Plan.is))
-    c.plan-frame.ensures
+    c.plan_frame.ensures
 
 pub returns-in-Inject : goal.returns-in-Inject
 unfolding framed
 returns-in-Inject c =
-    then c.inject-frame.result
+    then c.inject_frame.result
     (λ e. e ∙ ap (λ (f : Frame). behind (vec_items c.args.out.now) (framed (frame_value f) (running c.args.self.now))) (sym c.in-Inject.is))
-    c.inject-frame.ensures
+    c.inject_frame.ensures
 
 pub returns-in-Steps : goal.returns-in-Steps
 unfolding framed
 returns-in-Steps c =
-    then c.steps-frame.result
+    then c.steps_frame.result
     (λ e. e ∙ ap (λ (f : Frame). behind (vec_items c.args.out.now) (framed (frame_value f) (running c.args.self.now))) (sym c.in-Steps.is))
-    c.steps-frame.ensures
+    c.steps_frame.ensures

@@ -16,7 +16,7 @@ returns-in-Ok c =
 pub returns-in-Err : goal.returns-in-Err
 returns-in-Err c =
     let p = plan_named c.args.sizes c.args.arbiter c.args.route c.args.payload c.args.slots.now in
-    then c.append-refusal.result
+    then c.append_refusal.result
     (plan_refused p (running c.args.self.now) (timetable_of c.adopt.new.plan) (vec_items c.args.out.now)
-    (earliest (program_check c.args.sizes ∷ verdict (built_timetable p) ∷ [])) c.in-Err.why (vec_items c.append-refusal.new.out)
-    c.in-Err.ensures) c.append-refusal.ensures
+    (earliest (program_check c.args.sizes ∷ verdict (built_timetable p) ∷ [])) c.in-Err.why (vec_items c.append_refusal.new.out)
+    c.in-Err.ensures) c.append_refusal.ensures

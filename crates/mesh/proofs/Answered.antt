@@ -1,5 +1,5 @@
 -- What a call leaves, by what its checks say.
-use Rattle.std.proofs.Common.{◌≡◌, ℕ, ◌+◌, ◌-◌, List, [], ◌∷◌, Some, None, Ok, Err, sym, refl, ap, ◌∙◌}
+use Rattle.std.proofs.Common.{◌≡◌, ℕ, ◌+◌, ◌-◌, [], Some, None, Ok, Err}
 use Rattle.schedule.specs.declared.refusal.Refusal.{Refusal}
 use Rattle.machine.specs.Calls.{Answer, accepted, answer, answer_to, fresh, if_accepted, inject, injection_refusal, lengths, opened, opening, opening_answer, opening_refusal, outcome, outcome_of, own_queue, room, room_refusal, unchanged}
 use Rattle.machine.specs.Machine.{Machine, depth}

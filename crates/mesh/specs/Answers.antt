@@ -1,5 +1,5 @@
 -- Answers and effects of the calls on lent tables.
-use Rattle.std.specs.Prelude.{ℕ, ◌+◌, List, [], ◌∷◌, Ok, Err, Option, Result}
+use Rattle.std.specs.Prelude.{◌+◌, List, [], ◌∷◌, Ok, Err, Option, Result}
 use Rattle.schedule.specs.declared.refusal.Refusal.{Refusal}
 use Rattle.schedule.specs.declared.refusal.Refusal.TheVariants.{TableTooShort, UnsoundTable}
 use Rattle.machine.specs.declared.tables.Queue.{Queue}

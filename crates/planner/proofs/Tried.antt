@@ -1,5 +1,5 @@
 -- A plan call's answer tells what becomes of the line that brought the timetable.
-use Rattle.std.proofs.Common.{◌≡◌, ℕ, Some, None, Ok, Err, Option, sym, refl, ap, ◌∙◌, arith}
+use Rattle.std.proofs.Common.{◌≡◌, ℕ, Some, None, Ok, Err, Option, refl, ap, arith}
 use Rattle.std.specs.Option.{ok_or}
 use Rattle.schedule.specs.declared.refusal.Refusal.{Refusal}
 use Rattle.schedule.specs.Plans.{outcome, replaced_by}

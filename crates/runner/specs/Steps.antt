@@ -1,10 +1,10 @@
 -- What an injection and a row of steps print, and the tables that they leave, for a payload of either kind.
-use Rattle.std.specs.Prelude.{ℕ, zero, suc, ◌+◌, cond, List, [], ◌∷◌, ◌++◌, Ok, Err}
+use Rattle.std.specs.Prelude.{ℕ, zero, suc, ◌+◌, List, [], ◌∷◌, ◌++◌, Ok, Err}
 use Rattle.std.specs.List.{range_with_len, flat_map}
 use Rattle.schedule.specs.declared.refusal.Refusal.{Refusal}
 use Rattle.frames.specs.Hex.{hex_line}
 use Rattle.frames.specs.Output.{delivery_bytes, refusal_bytes}
-use Rattle.machine.specs.Calls.{Answer, Outcome, answer, lengths, outcome, step_refusal, inject}
+use Rattle.machine.specs.Calls.{Answer, answer, lengths, outcome, step_refusal, inject}
 use Rattle.machine.specs.Machine.{Machine, owner, routers}
 use Rattle.machine.specs.Moves.{cycle_moves, handed_over, moved}
 use Rattle.machine.specs.Packets.{Packet}

@@ -1,9 +1,8 @@
-use Rattle.std.proofs.Common.{◌≡◌, [], ◌∷◌, sym, refl, ap, ◌∙◌}
+use Rattle.std.proofs.Common.{sym, ap, ◌∙◌}
 use Rattle.schedule.specs.declared.refusal.Refusal.TheVariants.{TableTooShort, UnsoundTable}
-use Rattle.schedule.specs.Verdict.{answered, earliest}
-use Rattle.machine.specs.Calls.{check, lengths, long_enough}
-use Rattle.machine.specs.Machine.{machine}
-use Rattle.machine.specs.Tables.{tables, sound}
+use Rattle.schedule.specs.Verdict.{answered}
+use Rattle.machine.specs.Calls.{check, lengths}
+use Rattle.machine.specs.Tables.{tables}
 use Rattle.mesh.proofs.Fitting.{long, some_choice, some_route}
 use Rattle.mesh.proofs.Refused.{passed, check_stops, check_passes, handed_on, alone}
 use Rattle.mesh.proofs.Soundness.{sound_same}

@@ -1,4 +1,4 @@
-use Rattle.std.proofs.Common.{◌≡◌, ◌<◌, ◌&&◌, ltb, [], ◌∷◌, get_or, Ok, sym, refl, ap, ◌∙◌, arith}
+use Rattle.std.proofs.Common.{◌<◌, ◌&&◌, ltb, get_or, Ok, sym, refl, ap, ◌∙◌, arith}
 use Rattle.std.proofs.lemmas.Bool.{and_parts, ltb-true}
 use Rattle.schedule.specs.declared.refusal.Refusal.TheVariants.{OutsideMesh, NoSuchDomain, QueueFull}
 use Rattle.machine.specs.Calls.{answer, injection_refusal, own_queue}

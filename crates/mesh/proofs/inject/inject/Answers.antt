@@ -1,6 +1,6 @@
-use Rattle.std.proofs.Common.{◌≡◌, ◌+◌, [], ◌∷◌, get_or, set, sym, refl, ap, ◌∙◌}
+use Rattle.std.proofs.Common.{◌≡◌, ◌+◌, get_or, set, ap, ◌∙◌}
 use Rattle.machine.specs.declared.tables.Place.{Place}
-use Rattle.machine.specs.Calls.{fresh, own_queue}
+use Rattle.machine.specs.Calls.{fresh}
 use Rattle.machine.specs.Machine.{machine}
 use Rattle.machine.specs.Moves.{injection_moves, moved}
 use Rattle.machine.specs.Tables.{tables, queue_at}

@@ -1,6 +1,5 @@
 use Rattle.std.proofs.Common.{◌+◌, ◌*◌, Some, refl, ap, arith}
 use Rattle.std.proofs.lemmas.Bool.{lt-ltb}
-use Rattle.machine.specs.Machine.{opposite}
 use Rattle.mesh.specs.Ports.{across}
 use Rattle.mesh.proofs.Across.{beside_some}
 use Rattle.mesh.proofs.Index.{router_in, routers_le}

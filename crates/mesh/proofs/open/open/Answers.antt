@@ -1,4 +1,4 @@
-use Rattle.std.proofs.Common.{◌≡◌, [], ◌∷◌, sym, refl, ap, ◌∙◌, arith}
+use Rattle.std.proofs.Common.{[], sym, ap, ◌∙◌, arith}
 use Rattle.schedule.specs.declared.refusal.Refusal.TheVariants.{TableTooShort}
 use Rattle.machine.specs.Calls.{lengths, opened, opening_refusal, outcome_of}
 use Rattle.machine.specs.Machine.{machine}

@@ -1,7 +1,7 @@
-use Rattle.std.proofs.Common.{◌≡◌, ◌-◌, ◌<◌, ltb, [], ◌∷◌, get_or, sym, refl, ap, ◌∙◌, arith}
+use Rattle.std.proofs.Common.{◌-◌, ltb, get_or, refl, ap, ◌∙◌, arith}
 use Rattle.std.proofs.lemmas.Bool.{ltb-true}
 use Rattle.schedule.specs.declared.refusal.Refusal.TheVariants.{OutsideMesh, NoSuchDomain}
-use Rattle.machine.specs.Calls.{check, room_refusal}
+use Rattle.machine.specs.Calls.{room_refusal}
 use Rattle.machine.specs.Machine.{machine, depth, domains, routers}
 use Rattle.machine.specs.Tables.{tables, queue_at}
 use Rattle.mesh.specs.Answers.{table_checks}

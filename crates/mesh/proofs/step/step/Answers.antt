@@ -8,7 +8,7 @@ use Rattle.mesh.specs.declared.moves.Move.{Move}
 use Rattle.mesh.specs.After.{queue_after, place_after, payload_after, word_after, delivery_after, delivered_after}
 use Rattle.mesh.specs.Heads.{routers, queue_count}
 use Rattle.mesh.specs.Orderly.{Orderly}
-use Rattle.mesh.specs.Ports.{idle, moves}
+use Rattle.mesh.specs.Ports.{idle}
 use Rattle.mesh.proofs.Called.{long, deliveries_long, lent}
 use Rattle.mesh.proofs.Cycled.{queues_cycled, places_cycled, payloads_cycled, words_cycled, deliveries_cycled, delivered_cycled}
 use Rattle.mesh.proofs.Sent.{lawful_by, orderly_moves}

@@ -1,4 +1,4 @@
-use Rattle.std.proofs.Common.{◌≡◌, length}
+use Rattle.std.proofs.Common.{length}
 use Rattle.schedule.specs.Built.{built}
 use Rattle.schedule.specs.Plans.{timetable_of}
 use Rattle.schedule.specs.Timetable.{timetable}

@@ -1,4 +1,4 @@
-use Rattle.std.proofs.Common.{◌≡◌, sym, refl, ap, ◌∙◌}
+use Rattle.std.proofs.Common.{ap}
 use Rattle.schedule.specs.declared.refusal.Refusal.TheVariants.{NotAFrame}
 use Rattle.schedule.specs.Plans.{timetable_of}
 use Rattle.schedule.specs.Timetable.{timetable}

@@ -1,4 +1,4 @@
-use Rattle.std.proofs.Common.{◌≡◌, Ok, Err, vec_items, sym}
+use Rattle.std.proofs.Common.{Ok, Err, vec_items, sym}
 use Rattle.std.proofs.lemmas.List.{append-nil}
 use Rattle.machine.specs.Machine.{machine}
 use Rattle.machine.specs.Tables.{tables}

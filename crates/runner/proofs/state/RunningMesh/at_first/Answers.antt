@@ -1,4 +1,4 @@
-use Rattle.std.proofs.Common.{◌≡◌, ap}
+use Rattle.std.proofs.Common.{ap}
 use Rattle.schedule.specs.Timetable.{Timetable}
 use Rattle.runner.specs.Running.{at_first}
 use Rattle.runner.proofs.Planned.{with_timetable}

@@ -1,4 +1,4 @@
-use Rattle.std.proofs.Common.{◌≡◌, vec_items, sym, ap, ◌∙◌}
+use Rattle.std.proofs.Common.{vec_items, sym, ap, ◌∙◌}
 use Rattle.frames.specs.declared.frame.Frame.{Frame}
 use Rattle.frames.specs.Frames.{frame_value}
 use Rattle.runner.specs.Printed.{framed}

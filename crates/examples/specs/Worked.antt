@@ -1,5 +1,5 @@
 -- Examples worked by hand, as statements about the definitions that the contracts use.
-use Rattle.std.specs.Prelude.{◌≡◌, ℕ, List, [], ◌∷◌, replicate, Some, None, Ok, Err}
+use Rattle.std.specs.Prelude.{◌≡◌, ℕ, [], ◌∷◌, replicate, Some, None, Ok, Err}
 use Rattle.schedule.specs.declared.refusal.Refusal.TheVariants.{SizeOutOfLimits, WaveBroken, QueueFull}
 use Rattle.schedule.specs.declared.sizes.Size.TheVariants.{Period}
 use Rattle.schedule.specs.declared.sizes.Sizes.{Sizes}

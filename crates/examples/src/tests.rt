@@ -32,11 +32,13 @@ fn answer_number(answer: Result<(), Refusal>) -> u8 {
 fn built_offsets_wrap_around(rt: HostRuntime) {
     let mut plan = Plan::smallest();
     assert_eq!(rt; answer_number(plan.adopt_built(row_of(3, 3), &[0; 5])), 0);
-    assert_eq!(rt; plan.offsets[10], 4);
-    assert_eq!(rt; plan.offsets[11], 1);
+    let three_wide = plan.offsets;
+    assert_eq!(rt; three_wide[10], 4);
+    assert_eq!(rt; three_wide[11], 1);
     assert_eq!(rt; answer_number(plan.adopt_built(row_of(2, 3), &[0; 2])), 0);
-    assert_eq!(rt; plan.offsets[5], 1);
-    assert_eq!(rt; plan.offsets[6], 1);
+    let two_wide = plan.offsets;
+    assert_eq!(rt; two_wide[5], 1);
+    assert_eq!(rt; two_wide[6], 1);
 }
 
 #[test]

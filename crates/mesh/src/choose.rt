@@ -2,7 +2,7 @@
 ghost use Rattle.std.specs.Prelude.{◌≡◌, ℕ, ◌+◌, ◌*◌, ◌<◌, ◌≤◌, length, replicate, slice_index};
 ghost use Rattle.machine.specs.Moves.{edit};
 ghost use Rattle.mesh.specs.Heads.{Fit, routers, ports, queue_count, outset};
-ghost use Rattle.mesh.specs.Ports.{room as room_of, idle, chosen, move_by, moves as Moves_of, passes};
+ghost use Rattle.mesh.specs.Ports.{room as room_of, idle, chosen, move_by, moves as moves_of, passes};
 
 use super::asking::{asking_sides, router_owners};
 use super::links::has_room;
@@ -133,7 +133,7 @@ pub(crate) fn choose_all<A: Arbiter, R: RouteRule>(
 ) -> [Move; 320]
     requires fit { Fit plan.now queues.now places.now }
     requires words_in { queue_count plan.now ≤ length words.now }
-    ensures { result ≡ Moves_of
+    ensures { result ≡ moves_of
         (outset plan.now (R.RouteRule.meaning rule.now) cycle queues.now places.now)
         (A.Arbiter.meaning arbiter.now) words.now }
 {

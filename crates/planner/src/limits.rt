@@ -1,6 +1,6 @@
 // The limits of the program `meshrun`, which are smaller than a plan's.
 ghost use Rattle.std.specs.Prelude.{◌≡◌};
-ghost use Rattle.planner.specs.Limits.{allowed as Allowed_of, excess as excess_of};
+ghost use Rattle.planner.specs.Limits.{allowed as allowed_of, excess as excess_of};
 
 use schedule::plan::Plan;
 
@@ -14,7 +14,7 @@ pub enum Excess {
 impl Excess {
     // How many of it `meshrun` allows.
     pub fn allowed(self) -> u8
-        ensures { result ≡ Allowed_of self }
+        ensures { result ≡ allowed_of self }
     {
         match self {
             Excess::Routers => 16,

@@ -1,5 +1,5 @@
 ghost use Rattle.std.specs.Prelude.{◌≡◌, ◌<◌};
-ghost use Rattle.rules.specs.Arbiters.{grant, rotating, start as start_of_lem};
+ghost use Rattle.rules.specs.Arbiters.{grant, rotating, start as start_of};
 ghost use Rattle.std.proofs.Common.{arith};
 ghost use Rattle.rules.specs.Priorities;
 ghost use Rattle.rules.specs.Upward.{upward_is_whole, start_below};
@@ -35,7 +35,7 @@ impl Arbiter for Rotating {
 
 // The side that is looked at first: three bits can name 5 to 7 too, which are read as 0.
 fn start(kept: u32) -> u32
-    ensures reads { result ≡ start_of_lem kept }
+    ensures reads { result ≡ start_of kept }
     ensures side { result < 5 }
 {
     if kept < 5 { kept } else { 0 }

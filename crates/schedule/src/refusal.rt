@@ -1,5 +1,5 @@
 ghost use Rattle.std.specs.Prelude.{◌≡◌};
-ghost use Rattle.schedule.specs.Refusals.{number as number_of_lem};
+ghost use Rattle.schedule.specs.Refusals.{number as number_of};
 
 use super::sizes::Size;
 
@@ -37,7 +37,7 @@ pub enum Refusal {
 impl Refusal {
     // The number by which a refusal is reported.
     pub fn number(self) -> u8
-        ensures { result ≡ number_of_lem self }
+        ensures { result ≡ number_of self }
     {
         match self {
             Refusal::NotAFrame => 1,

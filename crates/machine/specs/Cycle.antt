@@ -11,7 +11,7 @@ asks m cycle router port (x ∷ xs) = nat_le x.ready cycle && towards m router x
 
 -- a side in a set of sides, which has bit i for side i
 unfoldable pub bit : Bool → ℕ → ℕ
-bit in-set value = cond in-set value 0
+bit in_set value = cond in_set value 0
 
 -- the set of the sides of a router that ask for a port
 unfoldable pub asking : {P : Type 0} → Machine → View P → ℕ → ℕ → ℕ

@@ -1,4 +1,4 @@
-// The records of the tables that a caller lends. Each is laid out as in C, so that a caller in another language can lend them too.
+// The records of the tables that a caller lends. Each is laid out as in C, as a step towards callers in other languages.
 
 // One virtual channel queue, a ring of places: the place of its first packet, and how many packets it holds.
 #[repr(C)]

@@ -18,7 +18,7 @@ use Rattle.mesh.specs.After.{place_after, place_by, queue_after, word_after}
 use Rattle.mesh.specs.Heads.{Outset, outset, queue_count}
 use Rattle.mesh.specs.Heads as heads
 use Rattle.mesh.specs.Ports.{idle, moves}
-use Rattle.mesh.specs.Ports as ports-of
+use Rattle.mesh.specs.Ports as ports_of
 use Rattle.mesh.proofs.Edited.{edit_like, edit_same}
 use Rattle.mesh.proofs.Granted.{Lent, view_word}
 use Rattle.mesh.proofs.Index.{place_queue_in, port_in, queue_port_in}
@@ -167,11 +167,11 @@ module _ {P : Type 0} (plan : Plan) (choose : ℕ → ℕ → ℕ × ℕ) (route
     payload : (x : P) → get_or t.payloads (get_or ms (r * 5 + 4) idle).from x ≡ packet.payload
 
   handing : (r : ℕ) → r < heads.routers plan → (((get_or ms (r * 5 + 4) idle).passes ≡ false) × (moved_by.handed_over m t r ≡ [])) ⊎ Handed r
-  unfolding moved_by.handed_over owner ports-of.owner
+  unfolding moved_by.handed_over owner ports_of.owner
   handing r h =
       let k = r * 5 + 4 in
       let hk = port_in plan r 4 h (omega arith) in
-      let d = ports-of.owner plan t.cycle k in
+      let d = ports_of.owner plan t.cycle k in
       let hd = owner_below plan t.cycle k in
       let a : k / 5 ≡ r = digits_div r (omega arith) in
       let b : k % 5 ≡ 4 = digits_mod r (omega arith) in

@@ -12,7 +12,7 @@ use Rattle.machine.specs.Tables.{Tables, packets, place_at, queue_at, view}
 use Rattle.mesh.specs.Heads.{Fit, Outset, outset, asker, asking_set, mask, no_place, queue_count}
 use Rattle.mesh.specs.Heads as heads
 use Rattle.mesh.specs.Ports.{across, across_to, has_room}
-use Rattle.mesh.specs.Ports as ports-of
+use Rattle.mesh.specs.Ports as ports_of
 use Rattle.mesh.proofs.Across.{neighbour_back}
 use Rattle.mesh.proofs.Index.{port_in, queue_in}
 use Rattle.mesh.proofs.Packets.{packet, packets_length, packets_none, packets_some, first_index}
@@ -102,23 +102,23 @@ module _ {P : Type 0} (plan : Plan) (choose : ℕ → ℕ → ℕ × ℕ) (route
       ∙ packets_length plan choose route t lent.payloads_in _ (number_in n (opposite p) d b.0 i hd))
 
   pub room_is : (d r p : ℕ) → r < heads.routers plan → p < 5 → d < plan.sizes.domains
-      → room m (view m t d) r p ≡ ports-of.room plan t.queues (r * 5 + p) d
-  unfolding room ports-of.room beyond width across
+      → room m (view m t d) r p ≡ ports_of.room plan t.queues (r * 5 + p) d
+  unfolding room ports_of.room beyond width across
   room_is d r p hr hp hd =
       let a : (r * 5 + p) / 5 ≡ r = digits_div r hp in
       let b : (r * 5 + p) % 5 ≡ p = digits_mod r hp in
       rw (a, b) (ap (λ x. eqb p 4 || x) (fed_room d r p hr hd _ refl))
 
-  owner_is : (r p : ℕ) → owner m r p t.cycle ≡ ports-of.owner plan t.cycle (r * 5 + p)
-  unfolding owner ports-of.owner
+  owner_is : (r p : ℕ) → owner m r p t.cycle ≡ ports_of.owner plan t.cycle (r * 5 + p)
+  unfolding owner ports_of.owner
   owner_is r p = refl
 
   -- the three conditions of a grant
   pub grants_is : (d r p : ℕ) → r < heads.routers plan → p < 5 → d < plan.sizes.domains
       → grants m d (view m t d) r p
-      ≡ (eqb (ports-of.owner plan t.cycle (r * 5 + p)) d && (ltb 0 (asking_set v r p d) && ports-of.room plan t.queues (r * 5 + p) d))
+      ≡ (eqb (ports_of.owner plan t.cycle (r * 5 + p)) d && (ltb 0 (asking_set v r p d) && ports_of.room plan t.queues (r * 5 + p) d))
   unfolding grants
   grants_is d r p hr hp hd =
-      let o : owner m r p (view m t d).cycle ≡ ports-of.owner plan t.cycle (r * 5 + p) = ap (owner m r p) (view_cycle d)
+      let o : owner m r p (view m t d).cycle ≡ ports_of.owner plan t.cycle (r * 5 + p) = ap (owner m r p) (view_cycle d)
       ∙ owner_is r p in
       rw (o, asking_is d r p hr hd, room_is d r p hr hp hd) refl

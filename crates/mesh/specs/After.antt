@@ -1,5 +1,5 @@
 -- The tables after a cycle, from the moves of its ports.
-use Rattle.std.specs.Prelude.{ℕ, ◌+◌, ◌-◌, ◌*◌, ◌/◌, ◌%◌, Bool, cond, ◌&&◌, ◌||◌, List, get_or, Some, None, Option, ◌==◌, slice_index_or}
+use Rattle.std.specs.Prelude.{ℕ, ◌+◌, ◌-◌, ◌*◌, ◌/◌, ◌%◌, Bool, cond, ◌&&◌, ◌||◌, List, Some, None, Option, ◌==◌, slice_index_or}
 use Rattle.schedule.specs.declared.plan.Plan.{Plan}
 use Rattle.machine.specs.declared.tables.Queue.{Queue}
 use Rattle.machine.specs.declared.tables.Place.{Place}
@@ -10,12 +10,12 @@ use Rattle.mesh.specs.Ports.{idle, across}
 
 -- whether port k passes a packet of domain d
 abbrev pub passing : List Move → ℕ → ℕ → Bool
-passing moves k d = (get_or moves k idle).passes && (get_or moves k idle).owner == d
+passing moves k d = (slice_index_or moves k idle).passes && (slice_index_or moves k idle).owner == d
 
 -- word q
 unfoldable pub word_after : Plan → List Move → ℕ → ℕ → ℕ
 word_after plan moves q x =
-    cond (passing moves (q / plan.sizes.domains) (q % plan.sizes.domains)) (get_or moves (q / plan.sizes.domains) idle).next x
+    cond (passing moves (q / plan.sizes.domains) (q % plan.sizes.domains)) (slice_index_or moves (q / plan.sizes.domains) idle).next x
 
 -- the port that passes a packet into queue q
 abbrev pub arriving_by : List Move → ℕ → Option ℕ → Option ℕ
@@ -27,7 +27,7 @@ arriving plan moves q = arriving_by moves (q % plan.sizes.domains) (across plan 
 
 -- whether port k takes the first packet of side i in domain d
 abbrev pub taking : List Move → ℕ → ℕ → ℕ → Bool
-taking moves k i d = passing moves k d && (get_or moves k idle).winner == i
+taking moves k i d = passing moves k d && (slice_index_or moves k idle).winner == i
 
 -- whether the first packet of queue q leaves it
 unfoldable pub leaving : Plan → List Move → ℕ → Bool
@@ -51,14 +51,14 @@ queue_after plan moves q x = record {
 -- the port whose packet is put at place k: the one that passes a packet into its queue, if the place is the first free one
 unfoldable pub landing : Plan → List Queue → List Move → ℕ → Option ℕ
 landing plan queues moves k =
-    let x = get_or queues (k / plan.sizes.depth) no_queue in
+    let x = slice_index_or queues (k / plan.sizes.depth) no_queue in
     cond (k % plan.sizes.depth == (x.first + x.count) % plan.sizes.depth) (arriving plan moves (k / plan.sizes.depth)) None
 
 -- place k
 abbrev pub place_by : Plan → ℕ → List Move → Option ℕ → Place → Place
 place_by plan t moves None x = x
 place_by plan t moves (Some j) x =
-    record { destination = (get_or moves j idle).destination; source = (get_or moves j idle).source; ready = t + plan.sizes.hop }
+    record { destination = (slice_index_or moves j idle).destination; source = (slice_index_or moves j idle).source; ready = t + plan.sizes.hop }
 
 unfoldable pub place_after : Plan → ℕ → List Queue → List Move → ℕ → Place → Place
 place_after plan t queues moves k x = place_by plan t moves (landing plan queues moves k) x
@@ -66,7 +66,7 @@ place_after plan t queues moves k x = place_by plan t moves (landing plan queues
 -- the payload at place k
 abbrev pub payload_by : {P : Type 0} → List Move → List P → Option ℕ → P → P
 payload_by moves payloads None x = x
-payload_by moves payloads (Some j) x = slice_index_or payloads (get_or moves j idle).from x
+payload_by moves payloads (Some j) x = slice_index_or payloads (slice_index_or moves j idle).from x
 
 unfoldable pub payload_after : {P : Type 0} → Plan → List Queue → List Move → List P → ℕ → P → P
 payload_after plan queues moves payloads k x = payload_by moves payloads (landing plan queues moves k) x
@@ -74,8 +74,8 @@ payload_after plan queues moves payloads k x = payload_by moves payloads (landin
 -- the delivery record of router r, and the payload beside it
 unfoldable pub delivery_after : List Move → ℕ → Delivery → Delivery
 delivery_after moves r x =
-    let m = get_or moves (r * 5 + 4) idle in
+    let m = slice_index_or moves (r * 5 + 4) idle in
     cond m.passes (record { mark = 1; domain = m.owner; source = m.source }) (record { mark = 0; domain = 0; source = 0 })
 
 unfoldable pub delivered_after : {P : Type 0} → List Move → List P → ℕ → P → P
-delivered_after moves payloads r x = cond (get_or moves (r * 5 + 4) idle).passes (slice_index_or payloads (get_or moves (r * 5 + 4) idle).from x) x
+delivered_after moves payloads r x = cond (slice_index_or moves (r * 5 + 4) idle).passes (slice_index_or payloads (slice_index_or moves (r * 5 + 4) idle).from x) x

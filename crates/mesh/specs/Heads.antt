@@ -1,5 +1,5 @@
 -- The first packets of the queues as a cycle begins, and what they ask for.
-use Rattle.std.specs.Prelude.{ℕ, zero, suc, ◌+◌, ◌*◌, ◌^◌, ◌<◌, ◌≤◌, Bool, cond, ◌&&◌, ◌||◌, List, length, get_or, ◌==◌, nat_le, nat_lt, slice_index, slice_index_or}
+use Rattle.std.specs.Prelude.{ℕ, zero, suc, ◌+◌, ◌*◌, ◌^◌, ◌<◌, ◌≤◌, Bool, cond, ◌&&◌, ◌||◌, List, length, ◌==◌, nat_le, nat_lt, slice_index, slice_index_or}
 use Rattle.schedule.specs.declared.geometry.Position.{Position}
 use Rattle.schedule.specs.declared.plan.Plan.{Plan}
 use Rattle.schedule.specs.Mesh.{position_of}
@@ -38,7 +38,7 @@ outset plan route cycle queues places =
 
 -- the place of the first packet of queue q, and that packet
 abbrev pub head_place : Outset → ℕ → ℕ
-head_place v q = q * v.plan.sizes.depth + (get_or v.queues q no_queue).first
+head_place v q = q * v.plan.sizes.depth + (slice_index_or v.queues q no_queue).first
 
 abbrev pub head : Outset → ℕ → Place
 head v q = slice_index_or v.places (head_place v q) no_place
@@ -50,11 +50,11 @@ head_side v r q = v.route (position_of v.plan.sizes.width r) (position_of v.plan
 -- whether queue q of router r asks for port p
 unfoldable pub asks : Outset → ℕ → ℕ → ℕ → Bool
 asks v r q p =
-    nat_lt 0 (get_or v.queues q no_queue).count && (nat_le (head v q).ready v.cycle && head_side v r q == p)
+    nat_lt 0 (slice_index_or v.queues q no_queue).count && (nat_le (head v q).ready v.cycle && head_side v r q == p)
 
 -- the port that queue q of router r asks for, 5 if it asks for none
 abbrev pub wanted : Outset → ℕ → ℕ → ℕ
-wanted v r q = cond (nat_lt 0 (get_or v.queues q no_queue).count && nat_le (head v q).ready v.cycle) (head_side v r q) 5
+wanted v r q = cond (nat_lt 0 (slice_index_or v.queues q no_queue).count && nat_le (head v q).ready v.cycle) (head_side v r q) 5
 
 -- the numbers below n that pass a test, as a set of bits
 unfoldable pub mask : (ℕ → Bool) → ℕ → ℕ
@@ -78,5 +78,5 @@ owned_by owners d =
 pub record Fit (plan : Plan) (queues : List Queue) (places : List Place) : Type 0 where
   pub queues_in : queue_count plan ≤ length queues
   pub places_in : queue_count plan * plan.sizes.depth ≤ length places
-  pub firsts : (q : ℕ) → q < queue_count plan → (get_or queues q no_queue).first < plan.sizes.depth
-  pub counts : (q : ℕ) → q < queue_count plan → (get_or queues q no_queue).count ≤ plan.sizes.depth
+  pub firsts : (q : ℕ) → q < queue_count plan → (slice_index_or queues q no_queue).first < plan.sizes.depth
+  pub counts : (q : ℕ) → q < queue_count plan → (slice_index_or queues q no_queue).count ≤ plan.sizes.depth

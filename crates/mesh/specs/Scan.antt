@@ -1,5 +1,5 @@
 -- Soundness of the queue records and the held packets, told place by place.
-use Rattle.std.specs.Prelude.{ℕ, ◌+◌, ◌-◌, ◌*◌, ◌%◌, Bool, cond, ◌&&◌, List, get_or, nat_le, nat_lt, slice_index_or}
+use Rattle.std.specs.Prelude.{ℕ, ◌+◌, ◌-◌, ◌*◌, ◌%◌, Bool, cond, ◌&&◌, List, nat_le, nat_lt, slice_index_or}
 use Rattle.schedule.specs.declared.plan.Plan.{Plan}
 use Rattle.machine.specs.declared.tables.Queue.{Queue}
 use Rattle.machine.specs.declared.tables.Place.{Place}
@@ -22,7 +22,7 @@ held b x s = nat_lt (cond (nat_lt s x.first) (s + b) s - x.first) x.count
 
 unfoldable pub sound_queue : Plan → ℕ → List Queue → List Place → ℕ → Bool
 sound_queue plan cycle queues places q =
-    let x = get_or queues q no_queue in
+    let x = slice_index_or queues q no_queue in
     nat_lt x.first plan.sizes.depth
     && (nat_le x.count plan.sizes.depth && all_below (sound_held plan cycle places q x.first) x.count)
 

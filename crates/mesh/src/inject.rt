@@ -1,5 +1,5 @@
 // A router's own core puts a packet into the mesh.
-ghost use Rattle.std.specs.Prelude.{◌≡◌, ℕ, ◌+◌, ◌*◌, ◌<◌, ◌≤◌, [], length, get_or, slice_index_or, slice_set};
+ghost use Rattle.std.specs.Prelude.{◌≡◌, ℕ, ◌+◌, ◌*◌, ◌<◌, ◌≤◌, [], length, slice_index_or, slice_set};
 ghost use Rattle.machine.specs.Calls.{answer, injection_refusal, inject as injection, lengths, outcome, outcome_of, own_queue};
 ghost use Rattle.machine.specs.Tables.{queue_at, sound as sound_tables, tables};
 ghost use Rattle.mesh.specs.Answers.{one_more};
@@ -56,8 +56,8 @@ fn join<P: Copy>(
     requires fit { Fit plan.now queues.old places.old }
     requires payloads_in { queue_count plan.now * plan.now.sizes.depth ≤ length payloads.old }
     requires inside { q < queue_count plan.now }
-    requires free { (get_or queues.old q no_queue).count < plan.now.sizes.depth }
-    ensures counted { result ≡ (get_or queues.old q no_queue).count + 1 }
+    requires free { (slice_index_or queues.old q no_queue).count < plan.now.sizes.depth }
+    ensures counted { result ≡ (slice_index_or queues.old q no_queue).count + 1 }
     ensures queued { queues.new
         ≡ slice_set queues.old q (one_more (slice_index_or queues.old q no_queue)) }
     ensures placed { places.new

@@ -28,6 +28,6 @@ from_same false false e = refl
 
 pub agree_everywhere : (f g : ℕ → ℕ → Bool) (m n : ℕ) → everywhere m (λ i. everywhere n (λ j. same (f i j) (g i j))) ≡ true
     → (i j : ℕ) → i < m → j < n → f i j ≡ g i j
-agree_everywhere f g m n all i j below-m below-n =
-    let row = each m (λ k. everywhere n (λ l. same (f k l) (g k l))) all i below-m in
-    from_same (f i j) (g i j) (each n (λ l. same (f i l) (g i l)) row j below-n)
+agree_everywhere f g m n all i j below_m below_n =
+    let row = each m (λ k. everywhere n (λ l. same (f k l) (g k l))) all i below_m in
+    from_same (f i j) (g i j) (each n (λ l. same (f i l) (g i l)) row j below_n)

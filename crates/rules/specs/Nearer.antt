@@ -27,8 +27,8 @@ module _ (width height : ℕ) (from to : Position) (here : Within width height f
       → Lead (cond (nat_lt a b) up (cond (nat_lt b a) down side))
   by_order a b up down side below above level =
       cond_both (nat_lt a b) up _ Lead (λ e. below (ltb-true a b e))
-      (λ not-below. cond_both (nat_lt b a) down side Lead (λ e. above (ltb-true b a e))
-      (λ not-above. let e : a ≡ b = omega (arith, ltb-false a b not-below, ltb-false b a not-above) in level e))
+      (λ not_below. cond_both (nat_lt b a) down side Lead (λ e. above (ltb-true b a e))
+      (λ not_above. let e : a ≡ b = omega (arith, ltb-false a b not_below, ltb-false b a not_above) in level e))
 
   column_leads : (side : ℕ) → (from.column ≡ to.column → Lead side) → Lead (by_column from to side)
   column_leads side =

@@ -18,8 +18,8 @@ pub record Routes (side : Position → Position → ℕ) : Type 0 where
 
 -- east or west where the columns differ
 abbrev pub by_column : Position → Position → ℕ → ℕ
-by_column from to same-column =
-    cond (nat_lt from.column to.column) 0 (cond (nat_lt to.column from.column) 1 same-column)
+by_column from to same_column =
+    cond (nat_lt from.column to.column) 0 (cond (nat_lt to.column from.column) 1 same_column)
 
 -- south or north where the rows differ
 abbrev pub by_row : Position → Position → ℕ → ℕ

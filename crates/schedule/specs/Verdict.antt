@@ -1,5 +1,5 @@
 -- The checks that a timetable must pass to become a plan, in order, each over the whole input; and what passing all of them means.
-use Rattle.std.specs.Prelude.{◌≡◌, ℕ, ◌+◌, ◌*◌, ◌/◌, ◌%◌, Bool, false, cond, not, ◌&&◌, leb, List, [], ◌∷◌, length, Some, None, Ok, Err, Option, Result, ◌==◌, nat_eq, nat_le, nat_lt, slice_index}
+use Rattle.std.specs.Prelude.{◌≡◌, ℕ, ◌+◌, ◌*◌, ◌/◌, ◌%◌, Bool, false, cond, not, ◌&&◌, List, [], ◌∷◌, length, Some, None, Ok, Err, Option, Result, ◌==◌, nat_eq, nat_le, nat_lt, slice_index}
 use Rattle.schedule.specs.declared.refusal.Refusal.{Refusal}
 use Rattle.schedule.specs.declared.refusal.Refusal.TheVariants.{SizeOutOfLimits, OffsetCount, UnknownDomain, DomainWithoutSlot, OffsetTooLarge, WaveBroken}
 use Rattle.schedule.specs.declared.sizes.Size.{Size}
@@ -36,7 +36,7 @@ count_check sizes offsets = cond (length offsets == ports sizes) None (Some Offs
 
 -- 4: the first slot that names a domain the plan does not have
 unfoldable pub slot_check : Sizes → List ℕ → Option Refusal
-slot_check sizes slots = refuse_first (λ k. leb sizes.domains (slice_index slots k)) (length slots) UnknownDomain
+slot_check sizes slots = refuse_first (λ k. nat_le sizes.domains (slice_index slots k)) (length slots) UnknownDomain
 
 -- 5: the lowest domain that no slot names
 unfoldable pub domain_check : Sizes → List ℕ → Option Refusal
@@ -44,7 +44,7 @@ domain_check sizes slots = refuse_first (λ d. nat_eq (share slots d) 0) sizes.d
 
 -- 6: the first offset that is not below the period
 unfoldable pub offset_check : ℕ → List ℕ → Option Refusal
-offset_check period offsets = refuse_first (λ k. leb period (slice_index offsets k)) (length offsets) (λ k. OffsetTooLarge (k / 5) (k % 5))
+offset_check period offsets = refuse_first (λ k. nat_le period (slice_index offsets k)) (length offsets) (λ k. OffsetTooLarge (k / 5) (k % 5))
 
 -- whether the wave breaks between a router and its neighbour on a side, if it has one there
 abbrev pub breaks_at : Sizes → ℕ → List ℕ → ℕ → ℕ → Option ℕ → Bool

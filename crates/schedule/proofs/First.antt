@@ -1,6 +1,8 @@
 -- What the first number that passes tells.
-use Rattle.std.proofs.Common.{◌≡◌, ℕ, zero, suc, ◌<◌, ◌≤◌, Bool, true, false, ltb, sym, refl, subst, ⊎_elim, arith}
+use Rattle.std.proofs.Common.{◌≡◌, ℕ, zero, suc, ◌<◌, ◌≤◌, Bool, true, false, ltb, List, length, get_or, sym, refl, subst, ⊎_elim, arith}
 use Rattle.std.proofs.lemmas.Bool.{lt-ltb, le-ltb, ltb-true, ltb-false, cases_lt}
+use Rattle.std.specs.List.{position_or_len}
+use Rattle.std.proofs.lemmas.List.Sums.{fails_before_first, passes_at_first, prefix_len-le-length}
 use Rattle.schedule.specs.Search.{first}
 
 pub first_none : (p : ℕ → Bool) (n : ℕ) → ((k : ℕ) → k < n → p k ≡ false) → first p n ≡ n
@@ -46,3 +48,22 @@ first_tells p (suc n) = go (first_tells p n) (ltb (first p n) n) refl (p n) refl
           (λ k l. ⊎_elim (λ m. h.1 k (omega arith)) (λ m. let s : n ≡ k = omega arith in subst (λ x. p x ≡ false) s f) (cases_lt k n)),
           λ l. absurd (omega arith),
         )
+
+-- the first place of a list whose entry passes, by what its entries are
+pub first_place : (p : ℕ → Bool) (entry : ℕ → ℕ) (xs : List ℕ) → ((k : ℕ) → k < length xs → get_or xs k 0 ≡ entry k)
+    → first (λ k. p (entry k)) (length xs) ≡ position_or_len p xs
+first_place p entry xs e = ⊎_elim here none (cases_lt (position_or_len p xs) (length xs))
+  where
+    fails : (k : ℕ) → k < position_or_len p xs → p (entry k) ≡ false
+    fails k l = subst (λ x. p x ≡ false) (e k (omega (arith, prefix_len-le-length {X = ℕ}))) (fails_before_first p xs k 0 l)
+
+    here : position_or_len p xs < length xs → first (λ k. p (entry k)) (length xs) ≡ position_or_len p xs
+    here l =
+        first_at (λ k. p (entry k)) (length xs) (position_or_len p xs) l fails
+        (subst (λ x. p x ≡ true) (e (position_or_len p xs) l) (passes_at_first p xs 0 l))
+
+    none : length xs ≤ position_or_len p xs → first (λ k. p (entry k)) (length xs) ≡ position_or_len p xs
+    none l =
+        let all : first (λ k. p (entry k)) (length xs) ≡ length xs =
+        first_none (λ k. p (entry k)) (length xs) (λ k m. fails k (omega arith)) in
+        omega (arith, prefix_len-le-length {X = ℕ})

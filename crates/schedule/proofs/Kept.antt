@@ -17,7 +17,7 @@ use Rattle.schedule.proofs.Refuse.{refused_none, none_fails}
 none_parts : (check : Option Refusal) (checks : List (Option Refusal)) → earliest (check ∷ checks) ≡ None
     → (check ≡ None) × (earliest checks ≡ None)
 none_parts None checks e = (refl, e)
-none_parts (Some why) checks e = absurd (let z : ◌≡◌ {A = ℕ} 0 1 = cc in omega arith)
+none_parts (Some why) checks e = absurd cc
 
 none_from : (check : Option Refusal) (checks : List (Option Refusal)) → check ≡ None → earliest checks ≡ None
     → earliest (check ∷ checks) ≡ None
@@ -28,7 +28,7 @@ limit_kept size n e = go (leb 1 n && leb n (largest size)) refl
   where
     go : (b : Bool) → (leb 1 n && leb n (largest size)) ≡ b → From1To (largest size) n
     go true t = let p = and_parts (leb 1 n) (leb n (largest size)) t in (leb-true 1 n p.0, leb-true n (largest size) p.1)
-    go false t = absurd (let f = rw t at e in let z : ◌≡◌ {A = ℕ} 0 1 = cc in omega arith)
+    go false t = absurd (let f = rw t at e in cc)
 
 limit_passes : (size : Size) (n : ℕ) → From1To (largest size) n → limit size n ≡ None
 limit_passes size n h = let t = and_from (leb 1 n) (leb n (largest size)) (le-leb 1 n h.0) (le-leb n (largest size) h.1) in rw t
@@ -68,7 +68,7 @@ count_kept sizes offsets e = go (eqb (length offsets) (ports sizes)) refl
   where
     go : (b : Bool) → eqb (length offsets) (ports sizes) ≡ b → length offsets ≡ ports sizes
     go true t = eqb-true (length offsets) (ports sizes) t
-    go false t = absurd (let f = rw t at e in let z : ◌≡◌ {A = ℕ} 0 1 = cc in omega arith)
+    go false t = absurd (let f = rw t at e in cc)
 
 -- the wave does not break between a router and the neighbour that it has
 unbroken : (sizes : Sizes) (period : ℕ) (offsets : List ℕ) (link : Link sizes)

@@ -1,8 +1,8 @@
 mod First
-mod Held
 mod Kept
 mod Neighbours
 mod Outcomes
 mod Padded
 mod Refuse
+mod Ring
 mod Waves

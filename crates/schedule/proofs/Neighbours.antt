@@ -17,10 +17,10 @@ Step (suc (suc (suc (suc side)))) a b = ⊥
 -- a test that chose a place was passed, and the place is the one it chose
 chosen : (test : Bool) (x y : Position) → cond test (Some x) None ≡ Some y → (test ≡ true) × (x ≡ y)
 chosen true x y e = (refl, cc)
-chosen false x y e = absurd (let z : ◌≡◌ {A = ℕ} 0 1 = cc in omega arith)
+chosen false x y e = absurd cc
 
 pub placed : {X Y : Type 0} (f : X → Y) (o : Option X) (y : Y) → option_map f o ≡ Some y → (x : X) × (o ≡ Some x) × (f x ≡ y)
-placed f None y e = absurd (let z : ◌≡◌ {A = ℕ} 0 1 = cc in omega arith)
+placed f None y e = absurd cc
 placed f (Some x) y e = (x, refl, cc)
 
 pub neighbour_step : (w h : ℕ) (a b : Position) (side : ℕ) → Within w h a → neighbour w h a side ≡ Some b → Step side a b × Within w h b
@@ -40,7 +40,7 @@ neighbour_step w h a b (suc (suc (suc zero))) i e =
     let p = chosen (ltb 0 a.row) (position a.column (a.row - 1)) b e in
     let l = ltb-true 0 a.row p.0 in
     subst (λ q. Step 3 a q × Within w h q) p.1 (omega arith, (i.0, omega (arith, i.1)))
-neighbour_step w h a b (suc (suc (suc (suc side)))) i e = absurd (let z : ◌≡◌ {A = ℕ} 0 1 = cc in omega arith)
+neighbour_step w h a b (suc (suc (suc (suc side)))) i e = absurd cc
 
 -- numbers and places go to and fro
 pub position_router : (w : ℕ) (a : Position) → a.column < w → position_of w (router_at w a) ≡ a

@@ -1,9 +1,11 @@
 pub mod Built
 pub mod Limits
 pub mod Mesh
+pub mod Names
 pub mod Plans
 pub mod Refusals
 pub mod Search
+pub mod Sides
 pub mod Timetable
 pub mod Turns
 pub mod Verdict

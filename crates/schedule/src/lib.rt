@@ -1,6 +1,7 @@
 // Plans for a wave-scheduled mesh: which domain may use which router port in which cycle.
 #![tactic(auto)]
 
+mod allowed;
 mod build;
 mod check;
 pub mod geometry;
@@ -8,4 +9,5 @@ pub mod plan;
 pub mod planning;
 pub mod queries;
 pub mod refusal;
+pub mod side;
 pub mod sizes;

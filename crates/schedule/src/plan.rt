@@ -4,8 +4,9 @@ ghost use Rattle.schedule.specs.Timetable.{From1To, SlotsNameDomains, DomainsHav
 use super::sizes::Sizes;
 
 // A timetable that may go into a chip.
+// Arrays of a fixed length, with what is used at the front: a plan lies in memory that its owner lends, and there is no heap.
 #[repr(C)]
-#[derive(Clone, Copy)]
+#[derive(Clone, Copy, Debug)]
 pub struct Plan {
     pub sizes: Sizes,
     pub period: u8,

@@ -5,9 +5,7 @@ ghost use Rattle.schedule.specs.Plans.{timetable_of, BuiltKeep, smallest as smal
 ghost use Rattle.schedule.specs.Timetable.{timetable, padded, ports as port_count};
 ghost use Rattle.schedule.specs.Verdict.{Keeps, Assigned};
 
-use super::build::built_offsets;
 use super::check::{check, check_sizes};
-use super::geometry::routers;
 use super::plan::Plan;
 use super::refusal::Refusal;
 use super::sizes::Sizes;
@@ -18,9 +16,7 @@ fn stored<const N: usize>(entries: &[u8]) -> [u8; N]
     ensures { result ≡ padded N entries.now }
 {
     let mut array = [0; N];
-    for k in 0..entries.len() {
-        array[k] = entries[k];
-    }
+    array[..entries.len()].copy_from_slice(entries);
     array
 }
 
@@ -43,7 +39,8 @@ impl Plan {
         }
     }
 
-    // Takes up a timetable with an offset for each port, or refuses it and stays as it is.
+    // Takes up a timetable with an offset for each port, or refuses it and stays as it is. Sizes, slots and offsets are told one by one: what
+    // holds the three together is a plan.
     pub fn adopt(&mut self, sizes: Sizes, slots: &[u8], offsets: &[u8]) -> Result<(), Refusal>
         ensures left { outcome result (timetable_of self.new)
             ≡ replaced (timetable sizes slots.now offsets.now) (timetable_of self.old) }
@@ -66,9 +63,8 @@ impl Plan {
         ensures accepted { Decides (is_ok result) (Assigned sizes slots.now) }
         ensures built_keep { BuiltKeep sizes (length slots.now) }
     {
-        check_sizes(sizes, slots.len())?;
-        let ports = routers(sizes) as usize * 5;
-        let offsets = built_offsets(sizes, slots.len() as u8);
-        self.adopt(sizes, slots, &offsets[0..ports])
+        let allowed = check_sizes(sizes, slots.len())?;
+        let offsets = allowed.built_offsets();
+        self.adopt(sizes, slots, &offsets[..allowed.ports()])
     }
 }

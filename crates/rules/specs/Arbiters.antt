@@ -1,5 +1,6 @@
 -- Arbiters: which of the sides that ask for a port wins it, and which word the arbiter keeps for its next choice.
-use Rattle.std.specs.Prelude.{◌≡◌, ℕ, zero, suc, ◌+◌, ◌*◌, ◌/◌, ◌%◌, ◌^◌, ◌<◌, ◌≤◌, Bool, true, false, cond, ◌&&◌, ◌||◌, List, [], ◌∷◌, ◌++◌, take, drop, ◌==◌, nat_lt, slice_index}
+use Rattle.std.specs.Prelude.{◌≡◌, ℕ, zero, suc, ◌+◌, ◌*◌, ◌/◌, ◌%◌, ◌^◌, ◌<◌, ◌≤◌, Bool, true, cond, ◌&&◌, List, [], ◌∷◌, ◌++◌, take, drop, ◌==◌, nat_lt, slice_index}
+use Rattle.std.specs.List.{list_all, list_any}
 
 -- a set of sides is a number that has bit i for side i
 abbrev pub asks : ℕ → ℕ → Bool
@@ -71,12 +72,10 @@ abbrev pub Digits : List ℕ → Type 0
 Digits order = (place : ℕ) → slice_index order place < 8
 
 abbrev pub lists : List ℕ → ℕ → Bool
-lists [] side = false
-lists (first ∷ rest) side = first == side || lists rest side
+lists order side = list_any (λ listed. listed == side) order
 
 abbrev pub lists_all : List ℕ → List ℕ → Bool
-lists_all order [] = true
-lists_all order (side ∷ rest) = lists order side && lists_all order rest
+lists_all order sides = list_all (lists order) sides
 
 -- the list with one side moved behind all others
 abbrev pub moved_to_end : ℕ → List ℕ → List ℕ

@@ -1,17 +1,16 @@
 -- A test that antt computes at every contested set of sides, turned into the fact at each of them.
-use Rattle.std.specs.Prelude.{◌≡◌, ℕ, ◌<◌, Bool, true, not, ◌||◌, nat_lt}
-use Rattle.std.proofs.Common.{⊎_elim}
-use Rattle.std.proofs.lemmas.Bool.{and_parts, both_ways, ltb-true, not-true, or_cases}
+use Rattle.std.specs.Prelude.{◌≡◌, ℕ, ◌<◌, Bool, true, ◌&&◌, nat_lt}
+use Rattle.std.proofs.Common.{◌∙◌}
+use Rattle.std.proofs.lemmas.Bool.{agree_below, agree_below_at, and_parts, ltb-true}
 use Rattle.rules.specs.Arbiters.{contested}
-use Rattle.rules.specs.Everywhere.{everywhere, each}
 
 pub few_sides : (sides : ℕ) → contested sides ≡ true → sides < 32
 few_sides sides asked = ltb-true sides 32 (and_parts (nat_lt 0 sides) (nat_lt sides 32) asked).1
 
-abbrev pub where_contested : (ℕ → Bool) → ℕ → Bool
-where_contested test sides = not (contested sides) || test sides
+abbrev pub at_all_sets : (ℕ → Bool) → Bool
+at_all_sets test = agree_below (λ sides. contested sides && test sides) contested 32
 
-pub at_each_set : (test : ℕ → Bool) → everywhere 32 (where_contested test) ≡ true → (sides : ℕ) → contested sides ≡ true → test sides ≡ true
+pub at_each_set : (test : ℕ → Bool) → at_all_sets test ≡ true → (sides : ℕ) → contested sides ≡ true → test sides ≡ true
 at_each_set test all sides asked =
-    ⊎_elim (λ none. absurd (both_ways (contested sides) (not-true (contested sides) none) asked)) (λ passes. passes)
-    (or_cases (not (contested sides)) (test sides) (each 32 (where_contested test) all sides (few_sides sides asked)))
+    let both = agree_below_at (λ s. contested s && test s) contested 32 sides all (few_sides sides asked) ∙ asked in
+    (and_parts (contested sides) (test sides) both).1

@@ -1,8 +1,8 @@
 pub mod Arbiters
 pub mod Routes
 pub mod Orders
-pub mod Everywhere
 pub mod Priorities
 pub mod Contested
 pub mod Upward
 pub mod Nearer
+pub mod Lawful

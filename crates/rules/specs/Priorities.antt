@@ -1,9 +1,10 @@
 -- An arbiter that grants by a priority keeps to the laws, if its order lists every side.
-use Rattle.std.specs.Prelude.{◌≡◌, ℕ, ◌/◌, ◌%◌, ◌^◌, ◌<◌, ◌≤◌, true, false, ◌&&◌, List, [], ◌∷◌, ◌==◌, nat_eq, nat_lt, refl}
+use Rattle.std.specs.Prelude.{◌≡◌, ℕ, ◌/◌, ◌%◌, ◌^◌, ◌<◌, ◌≤◌, true, false, ◌&&◌, List, [], ◌∷◌, nat_lt, refl}
 use Rattle.std.proofs.Common.{sym, ap, subst, ◌∙◌, ⊎_elim, lt_of_lt_of_le, arith, pow_mono}
 use Rattle.std.proofs.Math.Nat.{mod-mod, div-eq_of_lt}
 use Rattle.std.proofs.lemmas.Nat.{pow_pos, mod_below}
-use Rattle.std.proofs.lemmas.Bool.{and_from, and_parts, and_right, both_ways, cases_lt, cond_both, cond-false, cond-true, eqb-true, false≢true, le-ltb, lt-ltb, or_cases}
+use Rattle.std.proofs.lemmas.Bool.{and_from, and_parts, and_right, cases_lt, cond_both, cond-false, cond-true, eqb-true, false≢true, le-ltb, lt-ltb, or_cases}
+use Rattle.std.proofs.lemmas.Bool.Decides.{nat_tests}
 use Rattle.rules.specs.Arbiters.{Arbitrates, Priority, all_sides, asks, contested, first_asking, grant, lists, lists_all}
 use Rattle.rules.specs.Contested.{at_each_set, few_sides}
 
@@ -11,22 +12,12 @@ use Rattle.rules.specs.Contested.{at_each_set, few_sides}
 first_asks : (sides : ℕ) (order : List ℕ) (side : ℕ) → lists order side ≡ true → asks sides side ≡ true
     → asks sides (first_asking sides order) ≡ true
 first_asks sides [] side listed asking = absurd (false≢true listed)
-first_asks sides (first ∷ rest) side listed asking =
-    cond_both (asks sides first) first (first_asking sides rest) (λ s. asks sides s ≡ true) (λ e. e)
-    (λ e. ⊎_elim
-    (λ (here : nat_eq first side ≡ true). let same = eqb-true first side here in absurd (both_ways (asks sides first) e (rw same asking)))
-    (λ (there : lists rest side ≡ true). first_asks sides rest side there asking)
-    (or_cases (first == side) (lists rest side) listed))
+first_asks sides (first ∷ rest) side listed asking = grind (arith, nat_tests, or_cases, cond-true, cond-false, first_asks sides rest side)
 
 -- a list that lists all of another lists each member of it
 listed_too : (order other : List ℕ) (side : ℕ) → lists_all order other ≡ true → lists other side ≡ true → lists order side ≡ true
 listed_too order [] side all listed = absurd (false≢true listed)
-listed_too order (first ∷ rest) side all listed =
-    let parts = and_parts (lists order first) (lists_all order rest) all in
-    ⊎_elim
-    (λ (here : nat_eq first side ≡ true). subst (λ s. lists order s ≡ true) (eqb-true first side here) parts.0)
-    (λ (there : lists rest side ≡ true). listed_too order rest side parts.1 there)
-    (or_cases (first == side) (lists rest side) listed)
+listed_too order (first ∷ rest) side all listed = grind (arith, nat_tests, and_parts, or_cases, listed_too order rest side)
 
 -- the lowest side that asks is found in every contested set
 some_side_asks : (sides : ℕ) → contested sides ≡ true →

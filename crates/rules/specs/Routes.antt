@@ -16,14 +16,17 @@ pub record Routes (side : Position → Position → ℕ) : Type 0 where
   pub nearer : (width height : ℕ) (from to : Position) → width ≤ 8 → height ≤ 8 → Within width height from → Within width height to
       → (from ≢ to) → Nearer width height from to (side from to)
 
+-- along one axis: the side towards higher numbers or the one towards lower numbers, else the side that is given
+abbrev pub along : ℕ → ℕ → ℕ → ℕ → ℕ → ℕ
+along from to ahead behind level = cond (nat_lt from to) ahead (cond (nat_lt to from) behind level)
+
 -- east or west where the columns differ
 abbrev pub by_column : Position → Position → ℕ → ℕ
-by_column from to same_column =
-    cond (nat_lt from.column to.column) 0 (cond (nat_lt to.column from.column) 1 same_column)
+by_column from to same_column = along from.column to.column 0 1 same_column
 
 -- south or north where the rows differ
 abbrev pub by_row : Position → Position → ℕ → ℕ
-by_row from to same_row = cond (nat_lt from.row to.row) 2 (cond (nat_lt to.row from.row) 3 same_row)
+by_row from to same_row = along from.row to.row 2 3 same_row
 
 abbrev pub columns_first : Position → Position → ℕ
 columns_first from to = by_column from to (by_row from to 4)

@@ -16,6 +16,7 @@ pub trait Arbiter {
         ensures { result ≡ bits self.now };
 
     // The winner among the sides, or 5 where the set is empty or has a side above 4; and the next word.
+    // Bare numbers, with 5 in the place of a None: this is the fixed form in which the project hands sides to an arbiter.
     fn choose(&self, word: u32, sides: u8) -> (u8, u32)
         ensures { result ≡ meaning self.now word sides };
 

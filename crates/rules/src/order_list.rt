@@ -1,15 +1,13 @@
 ghost use Rattle.std.specs.Prelude.{◌≡◌, ◌<◌};
 ghost use Rattle.rules.specs.Arbiters.{Digits, all_sides, first_asking, grant, kept_order, lists_all, moved_to_end};
 ghost use Rattle.rules.specs.Arbiters.{order_list, packed, unpacked};
-ghost use Rattle.std.proofs.Common.{arith};
-ghost use Rattle.rules.specs.Orders.{kept_is_whole, next_fits};
-ghost use Rattle.rules.specs.Priorities;
+ghost use Rattle.rules.specs.Lawful.{order_list_arbitrates};
 
 use super::arbiter::Arbiter;
 use super::sides::{NO_SIDE, asks, contested};
 
 // Least recently granted: the word lists the five sides, the first listed that asks wins and moves to the end.
-#[derive(Clone, Copy)]
+#[derive(Clone, Copy, Debug, PartialEq, Eq, Default)]
 pub struct OrderList;
 
 impl Arbiter for OrderList {
@@ -17,12 +15,13 @@ impl Arbiter for OrderList {
 
     ghost meaning = { λ _. grant order_list };
 
-    ghost arbitrates = { λ _. Priorities.arbitrates order_list (omega arith) kept_is_whole next_fits };
+    ghost arbitrates = { λ _. order_list_arbitrates };
 
     fn memory_bits(&self) -> u32 {
         15
     }
 
+    // Asks itself whether a side can win: one helper for all arbiters, told the choice as a closure, is no shorter.
     fn choose(&self, word: u32, sides: u8) -> (u8, u32) {
         let kept = word % 32768;
         if contested(sides) {
@@ -51,57 +50,43 @@ fn read_order(kept: u32) -> [u8; 5]
 fn unpack(number: u32) -> [u8; 5]
     ensures { result ≡ unpacked 5 number }
 {
-    [
-        (number % 8) as u8,
-        (number / 8 % 8) as u8,
-        (number / 64 % 8) as u8,
-        (number / 512 % 8) as u8,
-        (number / 4096 % 8) as u8,
-    ]
+    [number, number >> 3, number >> 6, number >> 9, number >> 12].map(|digits| (digits % 8) as u8)
 }
 
-// The inverse: one number for five digits.
+// The inverse: one number for five digits. No fold over them: each of its turns would owe that the number so far has room for one more.
 fn pack(order: [u8; 5]) -> u32
     ensures { result ≡ packed order }
 {
-    let [first, second, third, fourth, last] = order;
-    u32::from(first)
-        + 8 * u32::from(second)
-        + 64 * u32::from(third)
-        + 512 * u32::from(fourth)
-        + 4096 * u32::from(last)
+    let [first, second, third, fourth, last] = order.map(u32::from);
+    first + 8 * (second + 8 * (third + 8 * (fourth + 8 * last)))
 }
 
 // Does the order list each of the five sides?
 fn lists_all(order: &[u8; 5]) -> bool
-    requires { Digits order.now }
     ensures { result ≡ lists_all order.now all_sides }
 {
-    let mut listed: u8 = 0;
-    for side in order {
-        listed |= 1 << *side;
-    }
-    listed & ALL_SIDES == ALL_SIDES
+    [0, 1, 2, 3, 4].iter().all(|side| order.contains(side))
 }
-
-// The set of all five sides.
-const ALL_SIDES: u8 = 31;
 
 // The first side of the order that asks, and the order with that side moved to its end.
 fn first_to_end(order: [u8; 5], sides: u8) -> (u8, [u8; 5])
     requires { (Digits order) × (first_asking sides order < 5) }
     ensures { result ≡ (first_asking sides order, moved_to_end (first_asking sides order) order) }
 {
-    let [first, second, third, fourth, last] = order;
-    if asks(sides, first) {
-        (first, [second, third, fourth, last, first])
-    } else if asks(sides, second) {
-        (second, [first, third, fourth, last, second])
-    } else if asks(sides, third) {
-        (third, [first, second, fourth, last, third])
-    } else if asks(sides, fourth) {
-        (fourth, [first, second, third, last, fourth])
-    } else {
-        (last, order)
-    }
+    let place = order
+        .iter()
+        .position(|side| asks(sides, *side))
+        .unwrap_or(4);
+    let winner = order[place];
+    // Picked place by place: `rotate_left` moves memory, and a choice with it takes half as long again.
+    let next_at = |at: usize| {
+        if at < place {
+            order[at]
+        } else if at < 4 {
+            order[at + 1]
+        } else {
+            winner
+        }
+    };
+    (winner, std::array::from_fn(next_at))
 }

@@ -1,14 +1,12 @@
 ghost use Rattle.std.specs.Prelude.{◌≡◌, ◌<◌};
 ghost use Rattle.rules.specs.Arbiters.{grant, rotating, start as start_of};
-ghost use Rattle.std.proofs.Common.{arith};
-ghost use Rattle.rules.specs.Priorities;
-ghost use Rattle.rules.specs.Upward.{upward_is_whole, start_below};
+ghost use Rattle.rules.specs.Lawful.{rotating_arbitrates};
 
 use super::arbiter::Arbiter;
 use super::sides::{NO_SIDE, contested, first_upward};
 
 // Rotating priority: the word names the side that is looked at first, and after a grant it is the turn of the side after the winner.
-#[derive(Clone, Copy)]
+#[derive(Clone, Copy, Debug, PartialEq, Eq, Default)]
 pub struct Rotating;
 
 impl Arbiter for Rotating {
@@ -16,12 +14,13 @@ impl Arbiter for Rotating {
 
     ghost meaning = { λ _. grant rotating };
 
-    ghost arbitrates = { λ _. Priorities.arbitrates rotating (omega arith) (λ kept. upward_is_whole _ (start_below kept)) (λ _ winner. omega arith) };
+    ghost arbitrates = { λ _. rotating_arbitrates };
 
     fn memory_bits(&self) -> u32 {
         3
     }
 
+    // Asks itself whether a side can win: one helper for all arbiters, told the choice as a closure, is no shorter.
     fn choose(&self, word: u32, sides: u8) -> (u8, u32) {
         let kept = word % 8;
         if contested(sides) {

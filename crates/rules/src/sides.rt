@@ -2,17 +2,17 @@
 ghost use Rattle.std.specs.Prelude.{◌≡◌, ◌<◌, true};
 ghost use Rattle.rules.specs.Arbiters.{asks as is_asking, contested as is_contested, first_asking, upward_from};
 
-// What an arbiter answers in the place of a winner where there is none.
+// What an arbiter answers in the place of a winner where there is none: a number and no None, as the fixed form of its answer has it.
 pub(crate) const NO_SIDE: u8 = 5;
 
 // Can one of these sides win: is there one, and none above 4?
 pub(crate) fn contested(sides: u8) -> bool
     ensures { result ≡ is_contested sides }
 {
-    sides > 0 && sides < 32
+    (1..32).contains(&sides)
 }
 
-// Is this side in the set of those that ask?
+// Is this side in the set of those that ask? The side is a number, the place of its bit.
 pub(crate) fn asks(sides: u8, side: u8) -> bool
     requires { side < 8 }
     ensures { result ≡ is_asking sides side }

@@ -2,7 +2,7 @@
 use Rattle.std.proofs.Common.{◌≡◌, ℕ, zero, suc, ◌+◌, ◌<◌, Bool, true, false, cond, ◌&&◌, eqb, List, [], ◌∷◌, map, length, take, Ok, Err, sym, refl, ap, ◌∙◌, subst, ap₂, ⊎_elim, arith}
 use Rattle.std.specs.List.{range_with_len, flat_map, AllByRecursion}
 use Rattle.std.proofs.lemmas.List.{length-append, length-map}
-use Rattle.std.proofs.lemmas.Bool.{and_parts, and_from, and_left, and_right, eqb-true, eq-eqb, ne_eqb, cases_eq, cond-true, cond-false, cases_Bool}
+use Rattle.std.proofs.lemmas.Bool.{both_ways, and_from, and_left, and_right, eq-eqb, ne_eqb, cond-true, cond-false, cases_Bool}
 use Rattle.machine.specs.Machine.{Machine, routers, towards, beyond, opposite}
 use Rattle.machine.specs.Packets.{Packet, View, Arrival}
 use Rattle.machine.specs.Cycle.{after, delivers, arrival, sends, grants, winner, leaves, first_leaves, joins, room_beyond, stays}
@@ -12,7 +12,7 @@ use Rattle.machine.specs.Promise.{total, counted, count_in, count_out}
 use Rattle.machine.proofs.Totals.{total_ext, total_add, total_none, total_one, total_swap, total_both, total_front}
 use Rattle.machine.proofs.QueueNumbers.{inside_from}
 use Rattle.machine.proofs.Links.{beyond_back, beyond_cases, beyond_low, beyond_own}
-use Rattle.machine.proofs.Choices.{clash, grants_beyond, joins_from, joins_none, leaves_some}
+use Rattle.machine.proofs.Choices.{grants_beyond, joins_from, joins_none, leaves_some}
 use Rattle.machine.proofs.Granted.{granted, goes, goes_stays}
 use Rattle.machine.proofs.Track.{OnWay, AllOnWay, on_way_router, after_queue}
 use Rattle.machine.proofs.OnWay.{on_way_next, on_way_none}
@@ -21,8 +21,7 @@ use Rattle.machine.proofs.Checks.{accepted_injection}
 use Rattle.machine.proofs.Laws.{Lawful}
 
 cond_nil : (b : Bool) (n : ℕ) → n ≡ 0 → cond b n 0 ≡ 0
-cond_nil true n h = h
-cond_nil false n h = refl
+cond_nil b n h = grind arith
 
 is_first : List ℕ → ℕ → Bool
 is_first [] r = false
@@ -54,24 +53,20 @@ module _ {P : Type 0} (c : Machine) (laws : Lawful c) (d : ℕ) (v : View P) (go
   pub leaves_by : (r i : ℕ) (x : Packet P) (xs : List (Packet P)) → v.queue r i ≡ x ∷ xs → leaves c d v r i ≡ true
       → (grants c d v r (towards c r x.destination) ≡ true) × (winner c v r (towards c r x.destination) ≡ i)
   unfolding leaves first_leaves
-  leaves_by r i x xs q l =
-      let h : (grants c d v r (towards c r x.destination) && eqb (winner c v r (towards c r x.destination)) i) ≡ true = rw q at l in
-      let k = and_parts (grants c d v r (towards c r x.destination)) _ h in (k.0, eqb-true _ _ k.1)
+  leaves_by r i x xs q l = grind arith
 
   way_low : (r i : ℕ) (x : Packet P) → OnWay c r i x → towards c r x.destination < 5
-  way_low r i x f = ⊎_elim (λ (q : r ≡ x.destination). omega (
+  way_low r i x f = grind (
     arith,
-    ap (λ (a : ℕ). towards c a x.destination) q
-        ∙ laws.arrived x.destination f.destination,
-  ))
-      (λ (q : r ≡ x.destination → ⊥). let n = laws.nearer r x.destination (on_way_router c laws r i x f) f.destination q in
-      omega (arith, beyond_low c r _ _ n.1)) (cases_eq r x.destination)
+    laws.arrived x.destination f.destination,
+    laws.nearer r x.destination (on_way_router c laws r i x f) f.destination,
+    beyond_low c r,
+  )
 
   -- a port's part in a side, but for one port
   row_nil : (r p i : ℕ) → (grants c d v r p ≡ true → winner c v r p ≡ i → ⊥) → row r p i ≡ 0
   unfolding row
-  row_nil r p i h = ⊎_elim (λ (f : grants c d v r p ≡ true). cond-false _ _ _ (ne_eqb _ _ (h f)))
-      (λ (f : grants c d v r p ≡ false). cond_nil _ _ (none_out r p f)) (cases_Bool (grants c d v r p))
+  row_nil r p i h = grind (arith, none_out r p)
 
   row_side : (r i : ℕ) → total 5 (λ p. row r p i) ≡ length (goes c d v r i)
   unfolding row goes
@@ -85,12 +80,10 @@ module _ {P : Type 0} (c : Machine) (laws : Lawful c) (d : ℕ) (v : View P) (go
           let by = leaves_by r i x xs q l in
           let g = granted c laws d v r w by.0 in
           total_one 5 w (λ p. row r p i) (way_low r i x a.0)
-          (λ k h n. row_nil r k i (λ f e. let g' = granted c laws d v r k f in
-          let same : g'.x ∷ g'.xs ≡ x ∷ xs = sym g'.queue ∙ ap (v.queue r) e ∙ q in
-          let x' : g'.x ≡ x = cc in n (sym g'.way ∙ ap (λ (y : Packet P). towards c r y.destination) x')))
+          (λ k h n. row_nil r k i (λ f e. let g' = granted c laws d v r k f in grind (arith, g'.queue, g'.way)))
           ∙ cond-true _ _ _ (eq-eqb _ _ by.1) ∙ ap length g.sends ∙ sym (ap length (cond-true _ _ _ l ∙ ap (take 1) q))
       go false l xs q = total_none 5 (λ p. row r p i) (λ k h. row_nil r k i
-          (λ f e. clash (subst (λ (j : ℕ). leaves c d v r j ≡ true) e (granted c laws d v r k f).leaves) l))
+          (λ f e. both_ways _ l (subst (λ (j : ℕ). leaves c d v r j ≡ true) e (granted c laws d v r k f).leaves)))
           ∙ sym (ap length (cond-false _ _ _ l))
 
   ports_sides : (r : ℕ) → total 5 (λ p. length (sends c d v r p)) ≡ total 5 (λ i. length (goes c d v r i))
@@ -102,31 +95,23 @@ module _ {P : Type 0} (c : Machine) (laws : Lawful c) (d : ℕ) (v : View P) (go
 
   no_room : (s p : ℕ) → p < 4 → beyond c s p ≡ [] → length (sends c d v s p) ≡ 0
   unfolding room_beyond
-  no_room s p h e = ⊎_elim
-      (λ (f : grants c d v s p ≡ true). let k = grants_beyond c d v s p h f in let k' : false ≡ true = rw e at k in clash k' refl)
-      (λ (f : grants c d v s p ≡ false). none_out s p f) (cases_Bool (grants c d v s p))
+  no_room s p h e = grind (arith, grants_beyond c d v s p h, none_out s p)
 
   fed_nil : (p s r : ℕ) → (beyond c s p ≡ r ∷ [] → ⊥) → fed p s r ≡ 0
   unfolding fed is_first
-  fed_nil p s r n = ⊎_elim (λ (e : beyond c s p ≡ []). rw e)
-      (λ (q : (x : ℕ) × (beyond c s p ≡ x ∷ [])). ap (λ (l : List ℕ). cond (is_first l r) (length (sends c d v s p)) 0) q.1
-      ∙ cond-false _ _ _ (ne_eqb q.0 r (λ w. n (q.1 ∙ ap (λ (y : ℕ). y ∷ []) w)))) (beyond_cases c s p)
+  fed_nil p s r n = grind (arith, beyond_cases c s p)
 
   fed_one : (p s r : ℕ) → beyond c s p ≡ r ∷ [] → fed p s r ≡ length (sends c d v s p)
   unfolding fed is_first
-  fed_one p s r e = ap (λ (l : List ℕ). cond (is_first l r) (length (sends c d v s p)) 0) e ∙ cond-true _ _ _ (eq-eqb r r refl)
-
-  head_same : (x y : ℕ) → x ∷ [] ≡ y ∷ [] → x ≡ y
-  head_same x y e = cc
+  fed_one p s r e = grind arith
 
   fed_port : (p s : ℕ) → p < 4 → s < routers c → total (routers c) (λ r. fed p s r) ≡ length (sends c d v s p)
   fed_port p s h hs = ⊎_elim
       (λ (e : beyond c s p ≡ []). total_none (routers c) (λ r. fed p s r)
-      (λ r l. fed_nil p s r (λ w. let u : [] ≡ r ∷ [] = sym e ∙ w in let z : ◌≡◌ {A = ℕ} 0 1 = cc in omega arith))
-      ∙ sym (no_room s p h e))
+      (λ r l. fed_nil p s r (λ w. cc)) ∙ sym (no_room s p h e))
       (λ (q : (x : ℕ) × (beyond c s p ≡ x ∷ [])).
       total_one (routers c) q.0 (λ r. fed p s r) (beyond_back c s p q.0 hs q.1).0
-      (λ k l n. fed_nil p s k (λ w. n (head_same k q.0 (sym w ∙ q.1)))) ∙ fed_one p s q.0 q.1)
+      (λ k l n. fed_nil p s k (λ w. n (cc (w, q.1)))) ∙ fed_one p s q.0 q.1)
       (beyond_cases c s p)
 
   fed_side : (p r : ℕ) → p < 4 → opposite (opposite p) ≡ p → r < routers c
@@ -134,14 +119,13 @@ module _ {P : Type 0} (c : Machine) (laws : Lawful c) (d : ℕ) (v : View P) (go
   fed_side p r h o hr = ⊎_elim
       (λ (e : beyond c r (opposite p) ≡ []).
       total_none (routers c) (λ s. fed p s r)
-      (λ s l. fed_nil p s r (λ w. let u : [] ≡ s ∷ [] = sym e ∙ (beyond_back c s p r l w).1 in let z : ◌≡◌ {A = ℕ} 0 1 = cc in
-      omega arith))
+      (λ s l. fed_nil p s r (λ w. cc (e, (beyond_back c s p r l w).1)))
       ∙ sym (ap length (joins_none c d v r (opposite p) e)))
       (λ (q : (x : ℕ) × (beyond c r (opposite p) ≡ x ∷ [])).
       let b = beyond_back c r (opposite p) q.0 hr q.1 in
       let e : beyond c q.0 p ≡ r ∷ [] = subst (λ (y : ℕ). beyond c q.0 y ≡ r ∷ []) o b.1 in
       total_one (routers c) q.0 (λ s. fed p s r) b.0 (λ k l n. fed_nil p k r
-      (λ w. n (head_same k q.0 (sym (beyond_back c k p r l w).1 ∙ q.1))))
+      (λ w. n (cc ((beyond_back c k p r l w).1, q.1))))
       ∙ fed_one p q.0 r e ∙ ap (λ (y : ℕ). length (sends c d v q.0 y)) (sym o)
       ∙ sym (ap length (joins_from c d v r (opposite p) q.0 q.1) ∙ length-map (sends c d v q.0 (opposite (opposite p))) _))
       (beyond_cases c r (opposite p))
@@ -210,12 +194,8 @@ module _ {P : Type 0} (c : Machine) (laws : Lawful c) (d : ℕ) (v : View P) (go
 module _ {P : Type 0} (c : Machine) (v : View P) (r : ℕ) (x : Packet P) (hr : r < routers c) where
   one_more : (a i : ℕ) → a < routers c → i < 5 → length ((added c r x v).queue a i) ≡ length (v.queue a i) + cond (eqb a r && eqb i 4) 1 0
   unfolding added
-  one_more a i ha hi = ap length (cond-true _ _ _ (inside_from c a i ha hi)) ∙ length-append (v.queue a i) _
-      ∙ ap (λ (n : ℕ). length (v.queue a i) + n) (go (eqb a r && eqb i 4))
-    where
-      go : (b : Bool) → length (cond b (x ∷ []) []) ≡ cond b 1 0
-      go true = refl
-      go false = refl
+  one_more a i ha hi =
+      grind (arith, inside_from c a i ha hi, length-append (v.queue a i) (cond (eqb a r && eqb i 4) (x ∷ []) []))
 
   once : total (routers c) (λ a. total 5 (λ i. cond (eqb a r && eqb i 4) 1 0)) ≡ 1
   once = total_one (routers c) r _ hr (λ k l n. total_none 5 _ (λ i h. cond-false _ _ _ (and_left (eqb k r) (eqb i 4) (ne_eqb k r n))))

@@ -1,16 +1,13 @@
 -- What the choices of a cycle keep to, for any view.
-use Rattle.std.proofs.Common.{◌≡◌, ℕ, ◌+◌, ◌-◌, ◌<◌, ◌≤◌, Bool, true, false, cond, ◌&&◌, ◌||◌, eqb, ltb, List, [], ◌∷◌, map, length, take, refl, ap, ◌∙◌, ⊎_elim, arith}
-use Rattle.std.specs.List.{flat_map, AllByRecursion}
+use Rattle.std.proofs.Common.{◌≡◌, ℕ, ◌+◌, ◌-◌, ◌<◌, ◌≤◌, true, [], ◌∷◌, map, length, ap, ◌∙◌, ⊎_elim, arith}
+use Rattle.std.specs.List.{AllByRecursion}
 use Rattle.std.proofs.lemmas.List.{length-take, length-map, append-nil}
 use Rattle.std.proofs.ByRecursion.{All-take, All-map, All-weaker}
-use Rattle.std.proofs.lemmas.Bool.{and_parts, ltb-true, or_cases, eqb-true}
-use Rattle.machine.specs.Machine.{Machine, owner, routers, beyond, opposite, depth, hop}
+use Rattle.std.proofs.lemmas.Bool.{cond_both}
+use Rattle.machine.specs.Machine.{Machine, routers, beyond, opposite, depth, hop}
 use Rattle.machine.specs.Packets.{Packet, View}
-use Rattle.machine.specs.Cycle.{first_leaves, leaves, sends, joins, ready_at, grants, room, room_beyond, winner, asking}
+use Rattle.machine.specs.Cycle.{first_leaves, leaves, sends, joins, ready_at, grants, room, room_beyond, winner}
 use Rattle.machine.proofs.Links.{beyond_back, beyond_cases}
-
-pub clash : {b : Bool} {A : Type 0} → b ≡ true → b ≡ false → A
-clash p q = absurd (let u : ◌≡◌ {A = ℕ} 0 1 = cc in omega arith)
 
 -- a held packet keeps to its limits
 pub record InLimits {P : Type 0} (c : Machine) (t : ℕ) (x : Packet P) : Type 0 where
@@ -19,52 +16,34 @@ pub record InLimits {P : Type 0} (c : Machine) (t : ℕ) (x : Packet P) : Type 0
   pub ready : x.ready ≤ t + hop c - 1
 
 module _ {P : Type 0} (c : Machine) (d : ℕ) (v : View P) where
-  first_some : (r i : ℕ) (xs : List (Packet P)) → first_leaves c d v r i xs ≡ true → 0 < length xs
-  unfolding first_leaves
-  first_some r i [] e = let w : ◌≡◌ {A = ℕ} 0 1 = cc in absurd (omega arith)
-  first_some r i (x ∷ xs) e = omega arith
-
   pub leaves_some : (r i : ℕ) → leaves c d v r i ≡ true → 0 < length (v.queue r i)
-  unfolding leaves
-  leaves_some r i e = first_some r i (v.queue r i) e
-
-  cond_take : (b : Bool) (xs : List (Packet P)) → length (cond b (take 1 xs) []) ≤ 1
-  cond_take true xs = omega (arith, length-take 1 xs)
-  cond_take false xs = omega arith
+  unfolding leaves first_leaves
+  leaves_some r i e = grind arith
 
   pub sends_one : (r p : ℕ) → length (sends c d v r p) ≤ 1
   unfolding sends
-  sends_one r p = cond_take (grants c d v r p) (v.queue r (winner c v r p))
-
-  cond_some : (b : Bool) (xs : List (Packet P)) → 0 < length (cond b xs []) → b ≡ true
-  cond_some true xs h = refl
-  cond_some false xs h = absurd (omega arith)
+  sends_one r p = grind (arith, length-take 1 (v.queue r (winner c v r p)))
 
   sends_grants : (r p : ℕ) → 0 < length (sends c d v r p) → grants c d v r p ≡ true
   unfolding sends
-  sends_grants r p h = cond_some (grants c d v r p) _ h
+  sends_grants r p h = grind arith
 
   -- a port that leads to a neighbour and grants has room there
   pub grants_beyond : (s p : ℕ) → p < 4 → grants c d v s p ≡ true → room_beyond c v p (beyond c s p) ≡ true
   unfolding grants room
-  grants_beyond s p h f =
-      let some : Bool = ltb 0 (asking c v s p) in
-      let there : Bool = room_beyond c v p (beyond c s p) in
-      let q = (and_parts some (eqb p 4 || there) (and_parts (eqb (owner c s p v.cycle) d) (some && (eqb p 4 || there)) f).1).1 in
-      ⊎_elim (λ (k : eqb p 4 ≡ true). absurd (let e = eqb-true p 4 k in omega arith)) (λ (k : there ≡ true). k) (or_cases (eqb p 4) there q)
+  grants_beyond s p h f = grind arith
 
   grants_room : (s p r : ℕ) → p < 4 → beyond c s p ≡ r ∷ [] → grants c d v s p ≡ true → length (v.queue r (opposite p)) < depth c
   unfolding room_beyond
-  grants_room s p r h e f = let k = grants_beyond s p h f in ltb-true _ _ (rw e at k)
+  grants_room s p r h e f = grind (arith, grants_beyond s p h f)
 
   pub joins_from : (r i s : ℕ) → beyond c r i ≡ s ∷ [] → joins c d v r i ≡ map (ready_at (v.cycle + hop c)) (sends c d v s (opposite i))
   unfolding joins
-  joins_from r i s e = ap (λ (l : List ℕ). map (ready_at (v.cycle + hop c)) (flat_map (λ (s : ℕ). sends c d v s (opposite i)) l)) e
-      ∙ ap (map (ready_at (v.cycle + hop c))) (append-nil _)
+  joins_from r i s e = rw e (ap (map (ready_at (v.cycle + hop c))) (append-nil _))
 
   pub joins_none : (r i : ℕ) → beyond c r i ≡ [] → joins c d v r i ≡ []
   unfolding joins
-  joins_none r i e = ap (λ (l : List ℕ). map (ready_at (v.cycle + hop c)) (flat_map (λ (s : ℕ). sends c d v s (opposite i)) l)) e
+  joins_none r i e = rw e
 
   length_joins : (r i s : ℕ) → beyond c r i ≡ s ∷ [] → length (joins c d v r i) ≡ length (sends c d v s (opposite i))
   length_joins r i s e = ap length (joins_from r i s e) ∙ length-map _ _
@@ -78,17 +57,13 @@ module _ {P : Type 0} (c : Machine) (d : ℕ) (v : View P) where
   joins_fit r i h k = ⊎_elim (λ (e : beyond c r i ≡ []). absurd (omega (arith, ap length (joins_none r i e))))
       (λ (p : (s : ℕ) × (beyond c r i ≡ s ∷ [])).
       let b = beyond_back c r i p.0 h p.1 in
-      let l : 0 < length (sends c d v p.0 (opposite i)) = omega (arith, length_joins r i p.0 p.1) in
-      let f = grants_room p.0 (opposite i) r b.3 b.1 (sends_grants p.0 (opposite i) l) in
-      rw b.2 at f) (beyond_cases c r i)
-
-  cond_all : (Q : Packet P → Type 0) (b : Bool) (xs : List (Packet P)) → AllByRecursion Q xs → AllByRecursion Q (cond b (take 1 xs) [])
-  cond_all Q true xs a = All-take Q 1 xs a
-  cond_all Q false xs a = tt
+      let sent = length_joins r i p.0 p.1 in
+      grind (arith, sent, sends_grants p.0 (opposite i), grants_room p.0 (opposite i) r b.3 b.1, b.2))
+      (beyond_cases c r i)
 
   sends_all : (Q : Packet P → Type 0) → ((r i : ℕ) → AllByRecursion Q (v.queue r i)) → (r p : ℕ) → AllByRecursion Q (sends c d v r p)
   unfolding sends
-  sends_all Q a r p = cond_all Q (grants c d v r p) _ (a r (winner c v r p))
+  sends_all Q a r p = cond_both (grants c d v r p) _ [] (AllByRecursion Q) (λ _. All-take Q 1 _ (a r (winner c v r p))) (λ _. tt)
 
   pub joins_ok : 0 < hop c → ((r i : ℕ) → AllByRecursion (InLimits c v.cycle) (v.queue r i)) → (r i : ℕ)
       → AllByRecursion (InLimits c (v.cycle + 1)) (joins c d v r i)

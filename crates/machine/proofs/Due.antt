@@ -1,7 +1,7 @@
 -- A packet alone that is due in a cycle: each call delivers it in that cycle, or leaves it due.
 use Rattle.std.proofs.Common.{◌≡◌, ℕ, ◌+◌, ◌<◌, ◌≤◌, max, true, false, eqb, ◌⊎◌, List, [], ◌∷◌, Ok, Err, sym, refl, ap, ◌∙◌, subst, ap₂, inl, inr, ⊎_elim, arith}
-use Rattle.std.proofs.lemmas.Bool.{cases_lt, cases_Bool}
-use Rattle.schedule.specs.declared.refusal.Refusal.{Refusal}
+use Rattle.std.specs.List.{Contains}
+use Rattle.std.proofs.lemmas.Bool.{both_ways, cases_lt, cases_Bool}
 use Rattle.machine.specs.Calls.{Answer, Lengths, if_accepted, fresh}
 use Rattle.machine.specs.Cycle.{after, delivers}
 use Rattle.machine.specs.Machine.{Machine, beyond, domains, hop, routers, owner, towards}
@@ -14,18 +14,11 @@ use Rattle.machine.proofs.Home.{side_of_path, at_turn, past_turn, home_same, hom
 use Rattle.machine.proofs.Laws.{Kept}
 use Rattle.machine.proofs.Links.{beyond_low}
 use Rattle.machine.proofs.Lone as lone
-use Rattle.machine.proofs.Lone.{Lone, Fate, fate, Onward, In, still_held}
+use Rattle.machine.proofs.Lone.{Lone, Fate, fate, Onward, still_held}
 use Rattle.machine.proofs.Marks.{arrives, delivered, undelivered}
 use Rattle.machine.proofs.OneCall.{next_intact, other_view, own_answered, own_view, own_delivered}
 use Rattle.machine.proofs.OwnMachine.{answer_from, added, own_answer, own_next, own_deliveries}
 use Rattle.machine.proofs.Soundness.{Intact}
-use Rattle.machine.proofs.Choices.{clash}
-
-unlike : {A : Type 0} (n : ℕ) (why : Refusal) → ◌≡◌ {A = Answer} (Ok n) (Err why) → A
-unlike n why e = absurd (let w : ◌≡◌ {A = ℕ} 0 1 = cc in omega arith)
-
-same_ok : (n k : ℕ) → ◌≡◌ {A = Answer} (Ok n) (Ok k) → n ≡ k
-same_ok n k e = cc
 
 module _ {P : Type 0} (c : Machine) (kept : Kept c) (p : Injected P) (hd : p.domain < domains c) (he : p.destination < routers c)
     (h : ℕ) where
@@ -49,7 +42,7 @@ module _ {P : Type 0} (c : Machine) (kept : Kept c) (p : Injected P) (hd : p.dom
 
   -- a cycle delivers it in cycle h, or delivers nothing and leaves it due
   abbrev Step : View P → Type 0
-  Step v = ((v.cycle ≡ h) × In (arrives p v.cycle) (delivers c p.domain v)) ⊎ ((delivers c p.domain v ≡ []) × Due (after c p.domain v))
+  Step v = ((v.cycle ≡ h) × Contains (delivers c p.domain v) (arrives p v.cycle)) ⊎ ((delivers c p.domain v ≡ []) × Due (after c p.domain v))
 
   module _ (v : View P) (u : Due v) where
     abbrev it : Lone c p.domain p.source p.destination p.payload v
@@ -94,8 +87,7 @@ module _ {P : Type 0} (c : Machine) (kept : Kept c) (p : Injected P) (hd : p.dom
     gone_on s o b f [] walk due = absurd (let low = beyond_low c it.at _ s b in omega arith)
     gone_on s o b f (side ∷ sides) (named, other, (s', b', rest)) due =
         let some = kept.hop_some in
-        let one : s' ∷ [] ≡ s ∷ [] = sym b' ∙ (ap (beyond c it.at) (sym named) ∙ b) in
-        let same : s' ≡ s = cc in
+        let same : s' ≡ s = cc (b, b', named) in
         let turn : owner c it.at side v.cycle ≡ p.domain = ap (λ (x : ℕ). owner c it.at x v.cycle) (sym named) ∙ o in
         let next : H (side ∷ sides) v.cycle ≡ home c p.domain s' sides (v.cycle + hop c) =
         home_next c kept.timed p.domain hd side sides it.at s' v.cycle b'
@@ -135,7 +127,7 @@ module _ {P : Type 0} (c : Machine) (kept : Kept c) (p : Injected P) (hd : p.dom
     unmoved same still = inr ((λ w. still w.0 w.1.ran), subst Due (sym same) due, (λ n l r. still n r))
 
     no_step : {call : Asked P} → asked c e ≡ call → is_step call ≡ false → (n : ℕ) → Ran c n t e → ⊥
-    no_step q s n r = clash r.steps (ap is_step q ∙ s)
+    no_step q s n r = both_ways _ (ap is_step q ∙ s) r.steps
 
     by_other : {call : Asked P} → asked c e ≡ call → is_step call ≡ false → concerns d call ≡ false → Goal
     by_other q s k = unmoved (other_view c kept t ok e d hd (ap (concerns d) q ∙ k)) (no_step q s)
@@ -155,36 +147,32 @@ module _ {P : Type 0} (c : Machine) (kept : Kept c) (p : Injected P) (hd : p.dom
         unmoved (own_view c kept t ok e d hd mine ∙ (ap (own_next c d v) q
         ∙ ap (λ (a' : Answer). if_accepted a' (added c a (fresh v.cycle a b x) v) v) w)) (no_step q refl)
 
-    ran_cycle : (l : Lengths) (n : ℕ) → own_answer c v (step l) ≡ Ok n → v.cycle ≡ n
-    unfolding own_answer answer_from
-    ran_cycle l n w = accepted_step c true l v.cycle n w
-
     by_step : (l : Lengths) → asked c e ≡ step l → (w : Answer) → own_answer c v (step l) ≡ w → Goal
-    unfolding is_step concerns own_next own_deliveries if_accepted after
+    unfolding is_step concerns own_next own_deliveries own_answer answer_from if_accepted after
     by_step l q (Err why) w =
         let mine : concerns d (asked c e) ≡ true = ap (concerns d) q in
         let ans : (happens c t e).answer ≡ Err why = own_answered c kept t ok e d hd mine ∙ (ap (own_answer c v) q ∙ w) in
         unmoved (own_view c kept t ok e d hd mine ∙ (ap (own_next c d v) q ∙ ap (λ (a : Answer). if_accepted a (after c d v) v) w))
-        (λ n r. unlike n why (sym r.ran ∙ ans))
+        (λ n r. cc (r.ran, ans))
     by_step l q (Ok n) w =
         let mine : concerns d (asked c e) ≡ true = ap (concerns d) q in
         let ans : (happens c t e).answer ≡ Ok n = own_answered c kept t ok e d hd mine ∙ (ap (own_answer c v) q ∙ w) in
-        let cycle : v.cycle ≡ n = ran_cycle l n w in
+        let cycle : v.cycle ≡ n = accepted_step c true l v.cycle n w in
         let out : deliveries c t.cycle d (happens c t e) ≡ delivers c d v =
         own_delivered c kept t ok e d hd mine ∙ (ap (own_deliveries c d v) q ∙ ap (λ (a : Answer). if_accepted a (delivers c d v) []) w) in
         let then : view c (next c t e) d ≡ after c d v =
         own_view c kept t ok e d hd mine ∙ (ap (own_next c d v) q ∙ ap (λ (a : Answer). if_accepted a (after c d v) v) w) in
         ⊎_elim
-        (λ (g : (v.cycle ≡ h) × In (arrives p v.cycle) (delivers c d v)).
+        (λ (g : (v.cycle ≡ h) × Contains (delivers c d v) (arrives p v.cycle)).
         let ran : Ran c h t e = record { steps = ap is_step q; ran = ans ∙ ap (λ (x : ℕ). Ok x) (sym cycle ∙ g.0) } in
-        let there = subst (λ (x : ℕ). In (arrives p x) (deliveries c t.cycle d (happens c t e))) g.0
-        (subst (In (arrives p v.cycle)) (sym out) g.1) in
+        let there = subst (λ (x : ℕ). Contains (deliveries c t.cycle d (happens c t e)) (arrives p x)) g.0
+        (subst (λ l. Contains l (arrives p v.cycle)) (sym out) g.1) in
         inl (delivered c p he t e h ran there))
         (λ (g : (delivers c d v ≡ []) × Due (after c d v)).
         inr (
           undelivered c p he t e (out ∙ g.0),
           subst Due (sym then) g.1,
-          (λ k le r. let same : n ≡ k = same_ok n k (sym ans ∙ r.ran) in absurd (omega (arith, due_ge (after c d v) g.1))),
+          (λ k le r. let same : n ≡ k = cc (r.ran, ans) in absurd (omega (arith, due_ge (after c d v) g.1))),
         ))
         (due_step v due)
 

@@ -1,7 +1,7 @@
 -- A domain's turn at a port comes within its longest gap, and carries on to the neighbour with the wave.
-use Rattle.std.proofs.Common.{◌≡◌, ℕ, zero, suc, ◌+◌, ◌-◌, ◌%◌, ◌<◌, ◌≤◌, Bool, true, false, eqb, ltb, List, [], ◌∷◌, length, get_or, sym, refl, ap, ◌∙◌, subst, ⊎_elim, mod-lt, mod-eq_of_lt, arith}
+use Rattle.std.proofs.Common.{◌≡◌, ℕ, zero, suc, ◌+◌, ◌-◌, ◌%◌, ◌<◌, ◌≤◌, Bool, true, eqb, List, [], ◌∷◌, length, get_or, sym, ap, ◌∙◌, ⊎_elim, mod-lt, mod-eq_of_lt, arith}
 use native.Mathlib.Nat.{add-mod_right, mod-add-mod, add-mod-mod, mod-mod}
-use Rattle.std.proofs.lemmas.Bool.{cond-true, eqb-true, eq-eqb, cases_lt, ltb-true, ltb-false}
+use Rattle.std.proofs.lemmas.Bool.{cond_both, cond-true, eqb-true, eq-eqb, cases_lt}
 use Rattle.schedule.specs.Search.{first, largest}
 use Rattle.schedule.specs.Timetable.{offset}
 use Rattle.schedule.specs.Turns.{turn, until_next, gap_from, gap}
@@ -11,33 +11,18 @@ use Rattle.machine.proofs.Laws.{Timed}
 -- what the search finds passes, and nothing before it does
 first_passes : (p : ℕ → Bool) (n : ℕ) → first p n < n → p (first p n) ≡ true
 first_passes p zero h = absurd (omega arith)
-first_passes p (suc n) h = go (ltb (first p n) n) refl (p n) refl (first_passes p n) h
-  where
-    go : (a : Bool) → ltb (first p n) n ≡ a → (b : Bool) → p n ≡ b → (first p n < n → p (first p n) ≡ true)
-        → first p (suc n) < suc n → p (first p (suc n)) ≡ true
-    go true e b f ih l = rw e (ih (ltb-true _ _ e))
-    go false e true f ih l = rw (e, f) f
-    go false e false f ih l = let none : first p (suc n) ≡ suc n = rw (e, f) in absurd (omega arith)
+first_passes p (suc n) h = grind (arith, first_passes p n)
 
 first_below : (p : ℕ → Bool) (n j : ℕ) → j < n → p j ≡ true → first p n ≤ j
 first_below p zero j l h = absurd (omega arith)
-first_below p (suc n) j l h = go (ltb (first p n) n) refl (p n) refl (first_below p n j)
-  where
-    go : (a : Bool) → ltb (first p n) n ≡ a → (b : Bool) → p n ≡ b → (j < n → p j ≡ true → first p n ≤ j) → first p (suc n) ≤ j
-    go true e b f ih = let low = ltb-true _ _ e in rw e (⊎_elim (λ k. ih k h) (λ k. omega arith) (cases_lt j n))
-    go false e b f ih = let high = ltb-false _ _ e in
-        let here : n ≡ j = ⊎_elim (λ k. absurd (let q = ih k h in omega arith)) (λ k. omega arith) (cases_lt j n) in
-        let q : p n ≡ true = subst (λ (x : ℕ). p x ≡ true) (sym here) h in
-        rw (e, q) (omega arith)
+first_below p (suc n) j l h = grind (arith, first_below p n j)
 
 pub found : (p : ℕ → Bool) (n j : ℕ) → j < n → p j ≡ true → (p (first p n) ≡ true) × (first p n ≤ j)
 found p n j l h = let b = first_below p n j l h in (first_passes p n (omega arith), b)
 
 largest_above : (f : ℕ → ℕ) (n k : ℕ) → k < n → f k ≤ largest f n
 largest_above f zero k h = absurd (omega arith)
-largest_above f (suc n) k h =
-    ⊎_elim (λ (l : k < n). omega (arith, largest_above f n k l)) (λ (l : n ≤ k). let e : k ≡ n = omega arith in omega (arith, ap f e))
-    (cases_lt k n)
+largest_above f (suc n) k h = grind (arith, largest_above f n k)
 
 largest_within : (f : ℕ → ℕ) (n top : ℕ) → ((k : ℕ) → k < n → f k ≤ top) → largest f n ≤ top
 largest_within f zero top h = omega arith
@@ -61,13 +46,9 @@ module _ (slots : List ℕ) (d : ℕ) (some : 0 < length slots) where
       (ap (turn slots) (omega arith) ∙ eqb-true _ _ f.0, omega (arith, f.1))
 
   gap_short : gap slots d ≤ length slots
-  gap_short = largest_within (gap_from slots d) (length slots) (length slots) (λ k l. go k l (eqb (get_or slots k 0) d) refl)
-    where
-      go : (k : ℕ) → k < length slots → (b : Bool) → eqb (get_or slots k 0) d ≡ b → gap_from slots d k ≤ length slots
-      go k l true e =
-          let own : turn slots k ≡ d = ap (λ (y : ℕ). get_or slots y 0) (mod-eq_of_lt l) ∙ eqb-true _ _ e in
-          rw e (next_found k own).1
-      go k l false e = rw e (omega arith)
+  gap_short = largest_within (gap_from slots d) (length slots) (length slots) (λ k l.
+      cond_both (eqb (get_or slots k 0) d) _ _ (λ (x : ℕ). x ≤ length slots)
+      (λ e. (next_found k (ap (λ (y : ℕ). get_or slots y 0) (mod-eq_of_lt l) ∙ eqb-true _ _ e)).1) (λ _. omega arith))
 
   -- from a turn to the next
   next_turn : (k : ℕ) → turn slots k ≡ d → (n : ℕ) × (0 < n) × (n ≤ gap slots d) × (turn slots (k + n) ≡ d)

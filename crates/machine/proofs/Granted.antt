@@ -1,11 +1,11 @@
 -- A port that grants sends the first packet of the queue that wins it, and a queue loses just what the ports send.
-use Rattle.std.proofs.Common.{◌≡◌, ℕ, ◌<◌, ◌≤◌, Bool, true, false, cond, ◌&&◌, eqb, ltb, leb, List, [], ◌∷◌, ◌++◌, map, length, take, drop, sym, refl, ap, ◌∙◌, subst, arith}
+use Rattle.std.proofs.Common.{◌≡◌, ℕ, ◌<◌, ◌≤◌, Bool, true, false, cond, ◌&&◌, eqb, ltb, leb, List, [], ◌∷◌, ◌++◌, map, length, take, sym, refl, ap, ◌∙◌, arith}
 use Rattle.std.proofs.lemmas.List.{append_assoc, take-append-drop}
-use Rattle.std.proofs.lemmas.Bool.{leb-true, and_parts, and_from, ltb-true, eqb-true, eq-eqb, cond-true, cond-false}
+use Rattle.std.proofs.lemmas.Bool.{both_ways, leb-true, and_parts, and_from, ltb-true, eqb-true, eq-eqb, cond-true, cond-false}
 use Rattle.machine.specs.Machine.{Machine, towards}
 use Rattle.machine.specs.Packets.{Packet, View}
 use Rattle.machine.specs.Cycle.{asking, asks, first_leaves, leaves, ready_at, sends, stays, grants, winner}
-use Rattle.machine.proofs.Choices.{clash, leaves_some}
+use Rattle.machine.proofs.Choices.{leaves_some}
 use Rattle.machine.proofs.Laws.{Lawful}
 use Rattle.machine.proofs.Sides.{asking_tells, asking_low}
 
@@ -24,7 +24,7 @@ module _ {P : Type 0} (c : Machine) (laws : Lawful c) (d : ℕ) (v : View P) (r 
   granted_at : grants c d v r p ≡ true → winner c v r p < 5 → (q : List (Packet P)) → v.queue r (winner c v r p) ≡ q
       → asks c v.cycle r p (v.queue r (winner c v r p)) ≡ true → Granted c d v r p
   unfolding asks first_leaves sends leaves
-  granted_at f w [] e a = let k : false ≡ true = rw e at a in let u : ◌≡◌ {A = ℕ} 0 1 = cc in absurd (omega arith)
+  granted_at f w [] e a = let k : false ≡ true = rw e at a in cc
   granted_at f w (x ∷ xs) e a =
       let k : (leb x.ready v.cycle && eqb (towards c r x.destination) p) ≡ true = rw e at a in
       let parts = and_parts (leb x.ready v.cycle) (eqb (towards c r x.destination) p) k in
@@ -54,11 +54,7 @@ module _ {P : Type 0} (c : Machine) (d : ℕ) (v : View P) (r i : ℕ) where
 
   pub goes_stays : goes ++ stays c d v r i ≡ v.queue r i
   unfolding goes stays
-  goes_stays = go (leaves c d v r i)
-    where
-      go : (b : Bool) → cond b (take 1 (v.queue r i)) [] ++ cond b (drop 1 (v.queue r i)) (v.queue r i) ≡ v.queue r i
-      go true = take-append-drop 1 (v.queue r i)
-      go false = refl
+  goes_stays = grind (arith, take-append-drop 1 (v.queue r i))
 
 -- the payloads of one source and destination
 unfoldable pub between : {P : Type 0} → ℕ → ℕ → Packet P → Bool
@@ -72,13 +68,12 @@ module _ {P : Type 0} (s e : ℕ) where
   pub flow_append : (xs ys : List (Packet P)) → flow s e (xs ++ ys) ≡ flow s e xs ++ flow s e ys
   unfolding flow
   flow_append [] ys = refl
-  flow_append (x ∷ xs) ys = ap (λ (l : List P). cond (between s e x) (x.payload ∷ []) [] ++ l) (flow_append xs ys)
-      ∙ sym (append_assoc (cond (between s e x) (x.payload ∷ []) []) (flow s e xs) (flow s e ys))
+  flow_append (x ∷ xs) ys = grind (arith, append_assoc, flow_append xs ys)
 
   pub flow_ready : (t : ℕ) (xs : List (Packet P)) → flow s e (map (ready_at t) xs) ≡ flow s e xs
   unfolding flow ready_at between
   flow_ready t [] = refl
-  flow_ready t (x ∷ xs) = ap (λ (l : List P). cond (between s e x) (x.payload ∷ []) [] ++ l) (flow_ready t xs)
+  flow_ready t (x ∷ xs) = grind (arith, flow_ready t xs)
 
   flow_none : (x : Packet P) → between s e x ≡ false → flow s e (x ∷ []) ≡ []
   unfolding flow
@@ -91,11 +86,7 @@ module _ {P : Type 0} (c : Machine) (laws : Lawful c) (d : ℕ) (v : View P) (s 
   left_by : (x : Packet P) (xs : List (Packet P)) → v.queue r i ≡ x ∷ xs → leaves c d v r i ≡ true → between s e x ≡ true
       → (grants c d v r (towards c r e) ≡ true) × (winner c v r (towards c r e) ≡ i)
   unfolding leaves first_leaves between
-  left_by x xs q l b =
-      let h : (grants c d v r (towards c r x.destination) && eqb (winner c v r (towards c r x.destination)) i) ≡ true = rw q at l in
-      let g = rw (eqb-true _ _ (and_parts (eqb x.source s) (eqb x.destination e) b).1) at h in
-      let k = and_parts (grants c d v r (towards c r e)) (eqb (winner c v r (towards c r e)) i) g in
-      (k.0, eqb-true _ _ k.1)
+  left_by x xs q l b = grind arith
 
   out_nothing : ((y : Packet P) (ys : List (Packet P)) → v.queue r i ≡ y ∷ ys → leaves c d v r i ≡ true → between s e y ≡ false)
       → flow s e (sends c d v r (towards c r e)) ≡ []
@@ -105,8 +96,7 @@ module _ {P : Type 0} (c : Machine) (laws : Lawful c) (d : ℕ) (v : View P) (s 
       came : (g : Granted c d v r (towards c r e)) (b : Bool) → between s e g.x ≡ b → flow s e (g.x ∷ []) ≡ []
       came g true e₁ =
           let w = only _ g.x g.xs g.queue e₁ in
-          clash e₁ (h g.x g.xs (subst (λ (j : ℕ). v.queue r j ≡ g.x ∷ g.xs) w g.queue)
-          (subst (λ (j : ℕ). leaves c d v r j ≡ true) w g.leaves))
+          grind (arith, h g.x g.xs, g.queue, g.leaves)
       came g false e₁ = flow_none s e g.x e₁
 
       go : (b : Bool) → grants c d v r (towards c r e) ≡ b → flow s e (sends c d v r (towards c r e)) ≡ []
@@ -117,9 +107,6 @@ module _ {P : Type 0} (c : Machine) (laws : Lawful c) (d : ℕ) (v : View P) (s 
   unfolding goes flow
   goes_sends = go (leaves c d v r i) refl (v.queue r i) refl
     where
-      nil : flow {P = P} s e [] ≡ []
-      nil = refl
-
       Goal : Type 0
       Goal = flow s e (goes c d v r i) ≡ flow s e (sends c d v r (towards c r e))
 
@@ -130,14 +117,11 @@ module _ {P : Type 0} (c : Machine) (laws : Lawful c) (d : ℕ) (v : View P) (s 
       mine y ys q l true b =
           let k = left_by y ys q l b in
           let g = granted c laws d v r (towards c r e) k.0 in
-          let same : g.x ∷ g.xs ≡ y ∷ ys = sym g.queue ∙ ap (v.queue r) k.1 ∙ q in
-          let x : g.x ≡ y = cc in
-          ap (flow s e) (had y ys q l ∙ ap (λ (a : Packet P). a ∷ []) (sym x) ∙ sym g.sends)
+          grind (arith, had y ys q l, g.queue, g.sends, k.1)
       mine y ys q l false b = ap (flow s e) (had y ys q l) ∙ flow_none s e y b
-          ∙ sym (out_nothing (λ y' ys' q' l'. let same : y ∷ ys ≡ y' ∷ ys' = sym q ∙ q' in let x : y ≡ y' = cc in
-          subst (λ (a : Packet P). between s e a ≡ false) x b))
+          ∙ sym (out_nothing (λ y' ys' q' l'. grind arith))
 
       go : (b : Bool) → leaves c d v r i ≡ b → (q : List (Packet P)) → v.queue r i ≡ q → Goal
-      go false l q e₁ = ap (flow s e) (cond-false _ _ _ l) ∙ nil ∙ sym (out_nothing (λ y ys q' l'. clash l' l))
+      go false l q e₁ = ap (flow s e) (cond-false _ _ _ l) ∙ sym (out_nothing (λ y ys q' l'. absurd (both_ways _ l l')))
       go true l [] e₁ = absurd (omega (arith, leaves_some c d v r i l, ap length e₁))
       go true l (y ∷ ys) e₁ = mine y ys e₁ l (between s e y) refl

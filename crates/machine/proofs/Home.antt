@@ -1,6 +1,6 @@
 -- When a packet that meets no other is home: not earlier for a later start, and by the bound.
-use Rattle.std.proofs.Common.{◌≡◌, ℕ, ◌+◌, ◌-◌, ◌*◌, ◌<◌, ◌≤◌, cond, eqb, List, [], ◌∷◌, length, sym, refl, ap, ◌∙◌, subst, ⊎_elim, arith}
-use Rattle.std.proofs.lemmas.Bool.{cases_lt, cases_eq, cond-false, eqb-true, eq-eqb, ne_eqb}
+use Rattle.std.proofs.Common.{◌≡◌, ℕ, ◌+◌, ◌-◌, ◌*◌, ◌<◌, ◌≤◌, cond, eqb, List, [], ◌∷◌, length, sym, ap, ◌∙◌, ⊎_elim, arith}
+use Rattle.std.proofs.lemmas.Bool.{cases_lt, eqb-true, eq-eqb}
 use Rattle.machine.specs.Machine.{Machine, routers, owner, beyond, domains, hop}
 use Rattle.schedule.specs.Turns.{gap}
 use Rattle.machine.specs.Promise.{straight_runs, turn_from, at_one, home, Path, bound}
@@ -41,9 +41,7 @@ module _ (c : Machine) (timed : Timed c) (d : ℕ) (hd : d < domains c) where
     past_turn t n =
         let a = turn_at t in
         let b = turn_at (t + 1) in
-        let later : t + 1 ≤ turn_from c d r p t = ⊎_elim (λ (q : t < turn_from c d r p t). omega arith)
-        (λ (q : turn_from c d r p t ≤ t). let e : turn_from c d r p t ≡ t = omega (arith, a.1) in
-        absurd (n (subst (λ (u : ℕ). owner c r p u ≡ d) e a.0))) (cases_lt t (turn_from c d r p t)) in
+        let later : t + 1 ≤ turn_from c d r p t = grind (arith, a) in
         omega (arith, least (t + 1) (turn_from c d r p t) later a.0, least t (turn_from c d r p (t + 1)) (omega (arith, b.1)) b.0)
 
     turn_mono : (t u : ℕ) → t ≤ u → turn_from c d r p t ≤ turn_from c d r p u
@@ -82,22 +80,15 @@ module _ (c : Machine) (timed : Timed c) (d : ℕ) (hd : d < domains c) where
 
   runs_head : (p : ℕ) (ps : List ℕ) → straight_runs (p ∷ ps) ≡ extra p ps + straight_runs ps
   unfolding straight_runs extra
-  runs_head p [] = refl
-  runs_head p (q ∷ qs) = refl
+  runs_head p ps = grind arith
 
   -- from one turn to the next: with the wave at once, else within the gap
   next_turn : (e p : ℕ) (ps : List ℕ) (r s t : ℕ) → r < routers c → p < 4 → beyond c r p ≡ s ∷ [] → Path c e s ps → owner c r p t ≡ d
       → turn_from c d s (side_of_path ps) (t + hop c) ≤ t + hop c + extra p ps * (gap c.timetable.slots d - 1)
   unfolding extra side_of_path
   next_turn e p [] r s t hr hp b w o = omega (arith, turn_near s 4 (t + hop c))
-  next_turn e p (q ∷ qs) r s t hr hp b w o = ⊎_elim
-      (λ (k : p ≡ q). let o' : owner c s q (t + hop c) ≡ d = ap (λ (a : ℕ). owner c s a (t + hop c)) (sym k)
-      ∙ rides c timed d hd r p s t hr hp b ∙ o in
-      let g : turn_from c d s q (t + hop c) ≤ t + hop c + cond (eqb p q) 0 1 * (gap c.timetable.slots d - 1) =
-      omega (arith, at_turn s q (t + hop c) o') in g)
-      (λ (k : p ≡ q → ⊥). let x : cond {A = ℕ} (eqb p q) 0 1 ≡ 1 = cond-false _ _ _ (ne_eqb p q k) in
-      let g : turn_from c d s q (t + hop c) ≤ t + hop c + cond (eqb p q) 0 1 * (gap c.timetable.slots d - 1) =
-      rw x (omega (arith, turn_near s q (t + hop c))) in g) (cases_eq p q)
+  next_turn e p (q ∷ qs) r s t hr hp b w o =
+      grind (arith, turn_near s q (t + hop c), at_turn s q (t + hop c), rides c timed d hd r p s t hr hp b)
 
   home_at : (e : ℕ) (ps : List ℕ) (r t : ℕ) → r < routers c → Path c e r ps → owner c r (side_of_path ps) t ≡ d
       → home c d r ps t ≤ t + length ps * hop c + straight_runs ps * (gap c.timetable.slots d - 1)
@@ -113,11 +104,7 @@ module _ (c : Machine) (timed : Timed c) (d : ℕ) (hd : d < domains c) where
       = home_at e ps s u (beyond_back c r p s hr b).0 rest (turn_at s (side_of_path ps) (t + hop c)).0 in
       let near : u ≤ t + hop c + extra p ps * (gap c.timetable.slots d - 1) =
       next_turn e p ps r s t hr (beyond_low c r p s b) b rest o in
-      let all : home c d r (p ∷ ps) t ≤ t + (1 + length ps) * hop c + (extra p ps + straight_runs ps) *
-      (gap c.timetable.slots d - 1) = omega arith in
-      let l : 1 + length ps ≡ length (p ∷ ps) = omega arith in
-      subst (λ (a : ℕ). home c d r (p ∷ ps) t ≤ t + a * hop c + straight_runs (p ∷ ps) * (gap c.timetable.slots d - 1)) l
-      (rw (runs_head p ps) all)
+      rw (runs_head p ps) (omega arith)
 
   pub home_bound : (e : ℕ) (ps : List ℕ) (r t : ℕ) → r < routers c → Path c e r ps → home c d r ps t ≤ bound c t d ps
   unfolding bound

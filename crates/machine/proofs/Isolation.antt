@@ -1,11 +1,10 @@
 -- A call on tables just as long as needed is, for the domain that it concerns, that call on the domain's view; for any other it is nothing.
 use Rattle.std.proofs.Common.{◌≡◌, ℕ, ◌+◌, ◌<◌, Bool, true, false, cond, ◌&&◌, eqb, [], ◌∷◌, ◌++◌, length, sym, refl, ap, ◌∙◌, subst, arith}
 use Rattle.std.proofs.lemmas.List.{append-nil}
-use Rattle.std.proofs.lemmas.Bool.{eqb-true, eqb-false, eq-eqb, ne_eqb, cond-true, cond-false}
-use Rattle.std.proofs.lemmas.Bool.Decides.{same_from_decides, Decides-eqb, Decides-like, Decides-and}
+use Rattle.std.proofs.lemmas.Bool.{eqb-true, eqb-false, eq-eqb, ne_eqb, cond-false}
 use Rattle.machine.specs.Calls.{Answer, Lengths, if_accepted, fresh, own_queue}
 use Rattle.machine.specs.Machine.{Machine, depth, domains, inside, routers, queue_number}
-use Rattle.machine.specs.Moves.{moved, cycle_moves, injection_moves, domain_of, side_of, router_of}
+use Rattle.machine.specs.Moves.{moved, cycle_moves, injection_moves}
 use Rattle.machine.specs.Packets.{Packet}
 use Rattle.machine.specs.Runs.{Asked, inject, room, step, concerns}
 use Rattle.machine.specs.Tables.{Tables, queue_at, view, sound}
@@ -23,19 +22,16 @@ use Rattle.machine.proofs.Views.{same_view, queue_in, queue_out, word_in, word_o
 module _ (c : Machine) (s i e r d : ℕ) (hs : s < routers c) (hi : i < 5) (he : e < domains c) (hr : r < routers c)
     (hd : d < domains c) where
   numbers_same : e ≡ d → eqb (queue_number c s i e) (queue_number c r 4 d) ≡ (eqb s r && eqb i 4)
-  numbers_same ed =
-      same_from_decides _ _ (Decides-eqb (queue_number c s i e) (queue_number c r 4 d))
-      (Decides-like _ (λ (p : (s ≡ r) × (i ≡ 4)). let a : s ≡ r = p.0 in let b : i ≡ 4 = p.1 in cc)
-      (λ (q : queue_number c s i e ≡ queue_number c r 4 d). (
-        sym (router_queue_number c s i e hs hi he) ∙ (ap (router_of c) q ∙ router_queue_number c r 4 d hr (omega arith) hd),
-        sym (side_queue_number c s i e hs hi he) ∙ (ap (side_of c) q ∙ side_queue_number c r 4 d hr (omega arith) hd),
-      ))
-      (Decides-and (eqb s r) (eqb i 4) (Decides-eqb s r) (Decides-eqb i 4)))
+  numbers_same ed = grind (
+    arith,
+    router_queue_number c s i e hs hi he,
+    router_queue_number c r 4 d hr (omega arith) hd,
+    side_queue_number c s i e hs hi he,
+    side_queue_number c r 4 d hr (omega arith) hd,
+  )
 
   numbers_apart : eqb e d ≡ false → eqb (queue_number c s i e) (queue_number c r 4 d) ≡ false
-  numbers_apart ed =
-      ne_eqb _ _ (λ q. eqb-false e d ed
-      (sym (domain_queue_number c s i e hs hi he) ∙ (ap (domain_of c) q ∙ domain_queue_number c r 4 d hr (omega arith) hd)))
+  numbers_apart ed = grind (arith, domain_queue_number c s i e hs hi he, domain_queue_number c r 4 d hr (omega arith) hd)
 
 -- an injection, seen by its own domain and by another
 module _ {P : Type 0} (c : Machine) (kept : Kept c) (t : Tables P) (ok : Intact c t) (r d : ℕ) (x : Packet P)
@@ -43,13 +39,12 @@ module _ {P : Type 0} (c : Machine) (kept : Kept c) (t : Tables P) (ok : Intact 
   into : Tables P
   into = moved c (injection_moves t (queue_number c r 4 d) x) t.cycle t
 
-  into_word : (e : ℕ) → e < domains c → (a i : ℕ) (b : Bool) → inside c a i ≡ b → (view c into e).word a i ≡ (view c t e).word a i
+  into_word : (e : ℕ) → e < domains c → (a i : ℕ) → (view c into e).word a i ≡ (view c t e).word a i
   unfolding into injection_moves
-  into_word e he a i true h =
+  into_word e he a i =
       let q : ℕ = queue_number c r 4 d in
-      words_moved c kept.depth_some t ok.exact (injection_moves t q x) t.cycle (can_inject c kept t ok q x full) e he a i h
-      ∙ sym (word_in c t e a i h)
-  into_word e he a i false h = word_out c into e a i h ∙ sym (word_out c t e a i h)
+      let moves = words_moved c kept.depth_some t ok.exact (injection_moves t q x) t.cycle (can_inject c kept t ok q x full) e he a i in
+      grind (arith, moves, word_in c t e a i, word_out c into e a i, word_out c t e a i)
 
   into_queue : (e : ℕ) → e < domains c → (a i : ℕ) → inside c a i ≡ true
       → (view c into e).queue a i ≡ (view c t e).queue a i ++ cond (eqb (queue_number c a i e) (queue_number c r 4 d)) (x ∷ []) []
@@ -60,25 +55,21 @@ module _ {P : Type 0} (c : Machine) (kept : Kept c) (t : Tables P) (ok : Intact 
 
   pub inject_seen : view c (moved c (injection_moves t (queue_number c r 4 d) x) t.cycle t) d ≡ added c r x (view c t d)
   unfolding added into moved view
-  inject_seen = same_view _ _ refl (λ a i. go a i (inside c a i) refl) (λ a i. into_word d hd a i (inside c a i) refl)
+  inject_seen = same_view _ _ refl (λ a i. (go a i (inside c a i) refl, into_word d hd a i))
     where
       go : (a i : ℕ) (b : Bool) → inside c a i ≡ b → (view c into d).queue a i ≡ (added c r x (view c t d)).queue a i
       go a i true h = let p = inside_parts c a i h in
-          into_queue d hd a i h
-          ∙ (ap (λ (b : Bool). (view c t d).queue a i ++ cond b (x ∷ []) []) (numbers_same c a i d r d p.0 p.1 hd hr hd refl)
-          ∙ sym (cond-true _ _ _ h))
+          grind (arith, into_queue d hd a i h, numbers_same c a i d r d p.0 p.1 hd hr hd refl)
       go a i false h = queue_out c into d a i h ∙ sym (cond-false _ _ _ h)
 
   pub inject_unseen : (e : ℕ) → e < domains c → eqb e d ≡ false
       → view c (moved c (injection_moves t (queue_number c r 4 d) x) t.cycle t) e ≡ view c t e
   unfolding into moved view
-  inject_unseen e he n = same_view _ _ refl (λ a i. go a i (inside c a i) refl) (λ a i. into_word e he a i (inside c a i) refl)
+  inject_unseen e he n = same_view _ _ refl (λ a i. (go a i (inside c a i) refl, into_word e he a i))
     where
       go : (a i : ℕ) (b : Bool) → inside c a i ≡ b → (view c into e).queue a i ≡ (view c t e).queue a i
       go a i true h = let p = inside_parts c a i h in
-          into_queue e he a i h
-          ∙ (ap (λ (b : Bool). (view c t e).queue a i ++ cond b (x ∷ []) []) (numbers_apart c a i e r d p.0 p.1 he hr hd n)
-          ∙ append-nil _)
+          grind (arith, append-nil, into_queue e he a i h, numbers_apart c a i e r d p.0 p.1 he hr hd n)
       go a i false h = queue_out c into e a i h ∙ sym (queue_out c t e a i h)
 
 -- a call on tables just as long as needed: the answer, and the tables after it
@@ -111,7 +102,7 @@ module _ {P : Type 0} (c : Machine) (kept : Kept c) (t : Tables P) (ok : Intact 
         let p = accepted_injection c _ l r e f _ _ n a in
         inject_unseen c kept t ok r e _ p.0 p.2 p.3 d hd (ne_eqb _ _ (λ q. eqb-false e d k (sym q)))) refl
     then_other (room l r e) k = refl
-    then_other (step l) k = absurd (let w : ◌≡◌ {A = ℕ} 0 1 = cc in omega arith)
+    then_other (step l) k = cc
 
     count_seen : (r : ℕ) → r < routers c → (queue_at t (queue_number c r 4 d)).count ≡ length ((view c t d).queue r 4)
     count_seen r h =
@@ -120,9 +111,7 @@ module _ {P : Type 0} (c : Machine) (kept : Kept c) (t : Tables P) (ok : Intact 
 
     named_is : (call : Asked P) (e : ℕ) → concerns d call ≡ true → Names call e → e ≡ d
     unfolding concerns Names
-    named_is (inject l r n f x) e k q = sym q ∙ eqb-true n d k
-    named_is (room l r n) e k q = sym q ∙ eqb-true n d k
-    named_is (step l) e k q = absurd q
+    named_is call e k q = grind arith
 
     pub answer_own : (call : Asked P) → concerns d call ≡ true → answered c t call ≡ own_answer c (view c t d) call
     unfolding answered own_answer view own_queue

@@ -7,14 +7,14 @@ use Rattle.std.proofs.lemmas.List.{get_or_append_left}
 use Rattle.machine.specs.declared.tables.Place.{Place}
 use Rattle.machine.specs.declared.tables.Queue.{Queue}
 use Rattle.machine.specs.Cycle.{leaves, joins, next_word}
-use Rattle.machine.specs.Machine.{Machine, depth, domains, inside, queues, queue_number}
+use Rattle.machine.specs.Machine.{Machine, depth, domains, inside, queues}
 use Rattle.machine.specs.Moves.{Moves, moved, is_end, place_after, payload_after, cycle_moves, domain_of, side_of, router_of}
 use Rattle.machine.specs.Packets.{Packet}
 use Rattle.machine.specs.Tables.{Tables, queue_at, place_at, packet_at, packets, view, sound_packets, sound_queue, all_below, sound}
 use Rattle.machine.proofs.Edits.{at_left, edit_onto}
 use Rattle.machine.proofs.Laws.{Kept}
 use Rattle.machine.proofs.Moved.{Exact, packet_from}
-use Rattle.machine.proofs.QueueNumbers.{inside_parts, queue_number_lt}
+use Rattle.machine.proofs.QueueNumbers.{number_inside}
 use Rattle.machine.proofs.Ring.{joined_ext}
 use Rattle.machine.proofs.Views.{same_view}
 
@@ -61,18 +61,15 @@ module _ {P : Type 0} (c : Machine) (kept : Kept c) (t : Tables P) (exact : Exac
 
   pub view_same : (d : ℕ) → d < domains c → view c (onto t b) d ≡ view c t d
   unfolding view
-  view_same d hd = same_view _ _ refl (λ r i. queue r i (inside c r i) refl) (λ r i. word r i (inside c r i) refl)
+  view_same d hd = same_view _ _ refl (λ r i. side r i (inside c r i) refl)
     where
-      number_lt : (r i : ℕ) → inside c r i ≡ true → queue_number c r i d < queues c
-      number_lt r i e = let p = inside_parts c r i e in queue_number_lt c r i d p.0 p.1 hd
-
-      queue : (r i : ℕ) (a : Bool) → inside c r i ≡ a → (view c (onto t b) d).queue r i ≡ (view c t d).queue r i
-      queue r i true e = ap (λ (l : List (Packet P)). cond (inside c r i) l []) (packets_same _ (number_lt r i e))
-      queue r i false e = rw e
-
-      word : (r i : ℕ) (a : Bool) → inside c r i ≡ a → (view c (onto t b) d).word r i ≡ (view c t d).word r i
-      word r i true e = ap (λ (n : ℕ). cond (inside c r i) n 0) (word_same _ (number_lt r i e))
-      word r i false e = rw e
+      side : (r i : ℕ) (a : Bool) → inside c r i ≡ a
+          → ((view c (onto t b) d).queue r i ≡ (view c t d).queue r i) × ((view c (onto t b) d).word r i ≡ (view c t d).word r i)
+      side r i true e = let l = number_inside c r i d e hd in (
+        ap (λ (l : List (Packet P)). cond (inside c r i) l []) (packets_same _ l),
+        ap (λ (n : ℕ). cond (inside c r i) n 0) (word_same _ l),
+      )
+      side r i false e = (rw e, rw e)
 
   pub sound_same : sound c (onto t b) ≡ sound c t
   unfolding sound sound_queue

@@ -1,44 +1,17 @@
 -- Links: the router beyond a side lies in the mesh, and has this one beyond its opposite side.
-use Rattle.std.proofs.Common.{◌≡◌, ℕ, zero, suc, ◌+◌, ◌-◌, ◌*◌, ◌<◌, Bool, true, false, cond, ltb, ◌⊎◌, [], ◌∷◌, Some, None, Option, sym, refl, ap, ◌∙◌, subst, inl, inr, mul_comm, arith}
+use Rattle.std.proofs.Common.{◌≡◌, ℕ, ◌*◌, ◌<◌, ◌⊎◌, [], ◌∷◌, Some, Option, sym, refl, ap, ◌∙◌, mul_comm, arith}
 use Rattle.std.specs.Option.{option_map, option_to_list}
 use Rattle.std.proofs.lemmas.Nat.{div-mul-add, mod-mul-add, div_below, mod_below, div-add-mod', mul-add-lt}
-use Rattle.std.proofs.lemmas.Bool.{ltb-true, lt-ltb}
 use Rattle.schedule.specs.declared.geometry.Position.{Position}
 use Rattle.schedule.specs.Mesh.{position, position_of, router_at, Within, neighbour}
 use Rattle.machine.specs.Machine.{Machine, width, routers, beyond, opposite}
-
--- a test that chose a place was passed, and the place is the one it chose
-chosen : (test : Bool) (x y : Position) → cond test (Some x) None ≡ Some y → (test ≡ true) × (x ≡ y)
-chosen true x y e = (refl, cc)
-chosen false x y e = absurd (let z : ◌≡◌ {A = ℕ} 0 1 = cc in omega arith)
-
-choose : (test : Bool) (x y : Position) → test ≡ true → x.column ≡ y.column → x.row ≡ y.row → cond test (Some x) None ≡ Some y
-choose test x y e c r = rw e (λ i. Some (position (c i) (r i)))
 
 abbrev pub Back : ℕ → ℕ → Position → ℕ → Position → Type 0
 Back w h a side b = Within w h b × (neighbour w h b (opposite side) ≡ Some a) × (opposite (opposite side) ≡ side) × (opposite side < 4)
 
 pub neighbour_back : (w h : ℕ) (a b : Position) (side : ℕ) → Within w h a → neighbour w h a side ≡ Some b → Back w h a side b
 unfolding opposite
-neighbour_back w h a b zero i e =
-    let p = chosen (ltb (a.column + 1) w) (position (a.column + 1) a.row) b e in
-    let l = ltb-true (a.column + 1) w p.0 in
-    subst (Back w h a 0) p.1 ((l, i.1), choose _ _ a (lt-ltb 0 (a.column + 1) (omega arith)) (omega arith) refl, refl, omega arith)
-neighbour_back w h a b (suc zero) i e =
-    let p = chosen (ltb 0 a.column) (position (a.column - 1) a.row) b e in
-    let l = ltb-true 0 a.column p.0 in
-    let low : a.column - 1 + 1 < w = omega (arith, i.0) in
-    subst (Back w h a 1) p.1 ((omega (arith, i.0), i.1), choose _ _ a (lt-ltb _ w low) (omega arith) refl, refl, omega arith)
-neighbour_back w h a b (suc (suc zero)) i e =
-    let p = chosen (ltb (a.row + 1) h) (position a.column (a.row + 1)) b e in
-    let l = ltb-true (a.row + 1) h p.0 in
-    subst (Back w h a 2) p.1 ((i.0, l), choose _ _ a (lt-ltb 0 (a.row + 1) (omega arith)) refl (omega arith), refl, omega arith)
-neighbour_back w h a b (suc (suc (suc zero))) i e =
-    let p = chosen (ltb 0 a.row) (position a.column (a.row - 1)) b e in
-    let l = ltb-true 0 a.row p.0 in
-    let low : a.row - 1 + 1 < h = omega (arith, i.1) in
-    subst (Back w h a 3) p.1 ((i.0, omega (arith, i.1)), choose _ _ a (lt-ltb _ h low) refl (omega arith), refl, omega arith)
-neighbour_back w h a b (suc (suc (suc (suc side)))) i e = absurd (let z : ◌≡◌ {A = ℕ} 0 1 = cc in omega arith)
+neighbour_back w h a b side i e = grind arith
 
 -- numbers and places go to and fro
 pub position_router : (w : ℕ) (a : Position) → a.column < w → position_of w (router_at w a) ≡ a
@@ -53,25 +26,15 @@ position_within w h r p l = (mod_below r w p, div_below r w h p (omega (arith, m
 -- the one router of a list of at most one
 listed : (w : ℕ) (o : Option Position) (s : ℕ) → option_to_list (option_map (router_at w) o) ≡ s ∷ []
     → (p : Position) × (o ≡ Some p) × (router_at w p ≡ s)
-listed w None s e = absurd (let z : ◌≡◌ {A = ℕ} 0 1 = cc in omega arith)
-listed w (Some p) s e = (p, refl, cc)
-
-one_of : (o : Option ℕ) → (option_to_list o ≡ []) ⊎ ((s : ℕ) × (option_to_list o ≡ s ∷ []))
-one_of None = inl refl
-one_of (Some s) = inr (s, refl)
+listed w o s e = grind arith
 
 pub some_of_list : (o : Option ℕ) (s : ℕ) → option_to_list o ≡ s ∷ [] → o ≡ Some s
-some_of_list None s e = absurd (let z : ◌≡◌ {A = ℕ} 0 1 = cc in omega arith)
-some_of_list (Some x) s e = let q : x ≡ s = cc in ap (λ (y : ℕ). Some y) q
+some_of_list o s e = grind arith
 
 module _ (c : Machine) where
   pub width_some : (r : ℕ) → r < routers c → 0 < width c
   unfolding routers width
-  width_some r h = go c.timetable.sizes.width h
-    where
-      go : (w : ℕ) → r < w * c.timetable.sizes.height → 0 < w
-      go zero k = omega arith
-      go (suc w) k = omega arith
+  width_some r h = grind arith
 
   pub beyond_back : (r i s : ℕ) → r < routers c → beyond c r i ≡ s ∷ []
       → (s < routers c) × (beyond c s (opposite i) ≡ r ∷ []) × (opposite (opposite i) ≡ i) × (opposite i < 4)
@@ -95,7 +58,7 @@ module _ (c : Machine) where
 
   pub beyond_cases : (r i : ℕ) → (beyond c r i ≡ []) ⊎ ((s : ℕ) × (beyond c r i ≡ s ∷ []))
   unfolding beyond
-  beyond_cases r i = one_of _
+  beyond_cases r i = grind arith
 
   -- no router lies beyond a router's own core
   pub beyond_own : (r : ℕ) → beyond c r 4 ≡ []
@@ -104,8 +67,4 @@ module _ (c : Machine) where
 
   pub beyond_low : (r i s : ℕ) → beyond c r i ≡ s ∷ [] → i < 4
   unfolding beyond
-  beyond_low r zero s e = omega arith
-  beyond_low r (suc zero) s e = omega arith
-  beyond_low r (suc (suc zero)) s e = omega arith
-  beyond_low r (suc (suc (suc zero))) s e = omega arith
-  beyond_low r (suc (suc (suc (suc i)))) s e = absurd (let z : ◌≡◌ {A = ℕ} 0 1 = cc in omega arith)
+  beyond_low r i s e = grind arith

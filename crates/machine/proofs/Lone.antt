@@ -1,8 +1,9 @@
 -- A packet alone in its domain: it goes as soon as it is ready and its port's turn has come, and else waits.
-use Rattle.std.proofs.Common.{◌≡◌, ℕ, zero, suc, ◌+◌, ◌<◌, ◌≤◌, Bool, true, false, cond, ◌||◌, eqb, ◌⊎◌, List, [], ◌∷◌, ◌++◌, map, length, drop, sym, refl, ap, ◌∙◌, subst, ap₂, inl, inr, ⊎_elim, arith}
-use Rattle.std.specs.List.{range_with_len, flat_map as joined}
+use Rattle.std.proofs.Common.{◌≡◌, ℕ, zero, suc, ◌+◌, ◌<◌, ◌≤◌, true, false, ◌||◌, eqb, List, [], ◌∷◌, ◌++◌, map, length, sym, refl, ap, ◌∙◌, subst, ap₂, ⊎_elim, arith}
+use Rattle.std.specs.List.{range_with_len, flat_map, Contains}
 use Rattle.std.proofs.lemmas.List.{nil_from_length}
-use Rattle.std.proofs.lemmas.Bool.{and_parts, and_from, eqb-true, eq-eqb, cases_eq, cases_lt, cond-false, cases_Bool, or_left, or_right, lt-ltb, le-leb}
+use Rattle.std.proofs.lemmas.List.Elements.{Contains-append_left, Contains-append_right}
+use Rattle.std.proofs.lemmas.Bool.{false_from_ne_true, both_ways, and_parts, eqb-true, cases_eq, cond-false, cases_Bool}
 use Rattle.machine.specs.Machine.{Machine, routers, towards, beyond, opposite, owner, depth, hop}
 use Rattle.machine.specs.Packets.{Packet, View}
 use Rattle.machine.specs.Cycle.{after, delivers, arrival, ready_at, sends, grants, leaves, joins, room, room_beyond, asks, stays}
@@ -10,7 +11,7 @@ use Rattle.machine.specs.Promise.{total}
 use Rattle.machine.proofs.Totals.{total_le, total_two}
 use Rattle.machine.proofs.QueueNumbers.{inside_from}
 use Rattle.machine.proofs.Links.{beyond_back}
-use Rattle.machine.proofs.Choices.{clash, joins_from}
+use Rattle.machine.proofs.Choices.{joins_from}
 use Rattle.machine.proofs.Granted.{granted}
 use Rattle.machine.proofs.Track.{AllOnWay, on_way_after, after_queue}
 use Rattle.machine.proofs.Balance.{all_held, balance, leaves_by}
@@ -32,44 +33,27 @@ module _ {P : Type 0} (c : Machine) (v : View P) where
   unfolding all_held
   lone_only one a j b i ha hj hb hi ka kb =
       let G : ℕ → ℕ = λ r. total 5 (λ i. length (v.queue r i)) in
-      let same : a ≡ b = ⊎_elim (λ (q : a ≡ b). q)
-      (λ (q : a ≡ b → ⊥). absurd (omega (
+      let same : a ≡ b = grind (
         arith,
-        total_two (routers c) a b G ha hb q,
+        total_two (routers c) a b G ha hb,
         total_le 5 j (λ i. length (v.queue a i)) hj,
         total_le 5 i (λ i. length (v.queue b i)) hi,
-      ))) (cases_eq a b) in (
+      ) in (
         same,
-        ⊎_elim (λ (q : j ≡ i). q)
-            (λ (q : j ≡ i → ⊥). absurd (omega (
-              arith,
-              total_le (routers c) b G hb,
-              total_two 5 j i (λ i. length (v.queue b i)) hj hi q,
-              ap (λ (r : ℕ). length (v.queue r j)) same,
-            ))) (cases_eq j i),
+        grind (
+          arith,
+          total_le (routers c) b G hb,
+          total_two 5 j i (λ i. length (v.queue b i)) hj hi,
+          ap (λ (r : ℕ). length (v.queue r j)) same,
+        ),
       )
 
--- an entry of a list
-unfoldable pub In : {X : Type 0} → X → List X → Type 0
-In x [] = ⊥
-In x (y ∷ ys) = (x ≡ y) ⊎ In x ys
-
-in_left : {X : Type 0} (x : X) (xs ys : List X) → In x xs → In x (xs ++ ys)
-unfolding In
-in_left x [] ys h = absurd h
-in_left x (y ∷ xs) ys (inl q) = inl q
-in_left x (y ∷ xs) ys (inr h) = inr (in_left x xs ys h)
-
-in_right : {X : Type 0} (x : X) (xs ys : List X) → In x ys → In x (xs ++ ys)
-unfolding In
-in_right x [] ys h = h
-in_right x (y ∷ xs) ys h = inr (in_right x xs ys h)
-
-in_joined : {X : Type 0} (x : X) (F : ℕ → List X) (a n k : ℕ) → a ≤ k → k < a + n → In x (F k) → In x (joined F (range_with_len a n))
+in_joined : {X : Type 0} (x : X) (F : ℕ → List X) (a n k : ℕ) → a ≤ k → k < a + n → Contains (F k) x
+    → Contains (flat_map F (range_with_len a n)) x
 in_joined x F a zero k l h i = absurd (omega arith)
-in_joined x F a (suc n) k l h i =
-    ⊎_elim (λ (q : a ≡ k). in_left x (F a) (joined F (range_with_len (a + 1) n)) (subst (λ (j : ℕ). In x (F j)) (sym q) i))
-    (λ (q : a ≡ k → ⊥). in_right x (F a) (joined F (range_with_len (a + 1) n)) (in_joined x F (a + 1) n k (omega arith) (omega arith) i))
+in_joined x F a (suc n) k l h i = ⊎_elim
+    (λ (q : a ≡ k). Contains-append_left (F a) _ x (subst (λ (j : ℕ). Contains (F j) x) (sym q) i))
+    (λ (q : a ≡ k → ⊥). Contains-append_right (F a) _ x (in_joined x F (a + 1) n k (omega arith) (omega arith) i))
     (cases_eq a k)
 
 -- the packet from r to e with payload x is alone, and stands at a queue
@@ -93,31 +77,23 @@ module _ {P : Type 0} (c : Machine) (laws : Lawful c) (depth_some : 0 < depth c)
   ahead_empty v l s b h =
       let p : ℕ = towards c l.at e in
       let bb = beyond_back c l.at p s l.low b in
-      nil_from_length _ (⊎_elim
-      (λ (k : 0 < length (v.queue s (opposite p))).
-      let q = lone_only c v l.one s (opposite p) l.at l.side bb.0 (omega (arith, bb.3)) l.low l.five k
-      (omega (arith, ap length l.queue)) in
-      absurd (omega (arith, ap (λ (a : ℕ). distance c a e) q.0)))
-      (λ (k : length (v.queue s (opposite p)) ≤ 0). omega arith) (cases_lt 0 (length (v.queue s (opposite p)))))
+      nil_from_length _ (grind (
+        arith,
+        lone_only c v l.one s (opposite p) l.at l.side bb.0 (omega (arith, bb.3)) l.low l.five,
+        ap length l.queue,
+      ))
 
   -- it goes if the port's turn has come and it is ready
   lone_granted : (v : View P) (l : Lone c d r e x v) → owner c l.at (towards c l.at e) v.cycle ≡ d → l.y.ready ≤ v.cycle
       → grants c d v l.at (towards c l.at e) ≡ true
   unfolding grants asks room room_beyond
-  lone_granted v l o k =
-      let p : ℕ = towards c l.at e in
-      and_from _ _ (eq-eqb _ _ o) (and_from _ _ (lt-ltb _ _ (some_asks c v l.at p l.side l.five its_turn)) space)
+  lone_granted v l o k = grind (arith, some_asks c v l.at (towards c l.at e) l.side l.five its_turn, space)
     where
       its_turn : asks c v.cycle l.at (towards c l.at e) (v.queue l.at l.side) ≡ true
-      its_turn = ap (asks c v.cycle l.at (towards c l.at e)) l.queue
-          ∙ and_from _ _ (le-leb _ _ k) (eq-eqb _ _ (ap (towards c l.at) l.destination))
+      its_turn = grind (arith, l.queue, l.destination)
 
       space : (eqb (towards c l.at e) 4 || room_beyond c v (towards c l.at e) (beyond c l.at (towards c l.at e))) ≡ true
-      space = ⊎_elim (λ (q : l.at ≡ e). or_left _ _ (eq-eqb _ 4 (ap (λ (a : ℕ). towards c a e) q ∙ laws.arrived e he)))
-          (λ (q : l.at ≡ e → ⊥).
-          let n = laws.nearer l.at e l.low he q in
-          or_right _ _ (ap (room_beyond c v (towards c l.at e)) n.1
-          ∙ lt-ltb _ _ (omega (arith, ap length (ahead_empty v l n.0 n.1 n.2))))) (cases_eq l.at e)
+      space = grind (arith, laws.arrived e he, laws.nearer l.at e l.low he, ahead_empty v l)
 
   lone_sent : (v : View P) (l : Lone c d r e x v) → grants c d v l.at (towards c l.at e) ≡ true
       → sends c d v l.at (towards c l.at e) ≡ l.y ∷ []
@@ -125,17 +101,11 @@ module _ {P : Type 0} (c : Machine) (laws : Lawful c) (depth_some : 0 < depth c)
       let g = granted c laws d v l.at (towards c l.at e) f in
       let w = (lone_only c v l.one l.at _ l.at l.side l.low g.side l.low l.five
       (omega (arith, ap length g.queue)) (omega (arith, ap length l.queue))).1 in
-      let same : g.x ∷ g.xs ≡ l.y ∷ [] = sym g.queue ∙ ap (v.queue l.at) w ∙ l.queue in
-      let y : g.x ≡ l.y = cc in
-      g.sends ∙ ap (λ (a : Packet P). a ∷ []) y
+      grind (arith, g.queue, g.sends, w, l.queue)
 
   stays_none : (v : View P) (a j : ℕ) → v.queue a j ≡ [] → stays c d v a j ≡ []
   unfolding stays
-  stays_none v a j q = go (leaves c d v a j)
-    where
-      go : (b : Bool) → cond b (drop 1 (v.queue a j)) (v.queue a j) ≡ []
-      go true = ap (drop 1) q
-      go false = q
+  stays_none v a j q = grind arith
 
   -- it goes on
   lone_moves : (v : View P) (l : Lone c d r e x v) → (l.at ≡ e → ⊥) → owner c l.at (towards c l.at e) v.cycle ≡ d
@@ -175,11 +145,8 @@ module _ {P : Type 0} (c : Machine) (laws : Lawful c) (depth_some : 0 < depth c)
   lone_waits : (v : View P) (l : Lone c d r e x v) → (grants c d v l.at (towards c l.at e) ≡ true → ⊥) → Lone c d r e x (after c d v)
   unfolding stays
   lone_waits v l n =
-      let unmoved : leaves c d v l.at l.side ≡ false = ⊎_elim
-      (λ (q : leaves c d v l.at l.side ≡ true). absurd
-      (n (subst (λ (a : ℕ). grants c d v l.at (towards c l.at a) ≡ true) l.destination
-      (leaves_by c laws d v l.good l.at l.side l.y [] l.queue q).0)))
-      (λ (q : leaves c d v l.at l.side ≡ false). q) (cases_Bool (leaves c d v l.at l.side)) in
+      let unmoved : leaves c d v l.at l.side ≡ false =
+      false_from_ne_true _ (λ q. n (rw l.destination at (leaves_by c laws d v l.good l.at l.side l.y [] l.queue q).0)) in
       let kept : stays c d v l.at l.side ≡ l.y ∷ [] = cond-false _ _ _ unmoved ∙ l.queue in
       let there : (after c d v).queue l.at l.side ≡ (l.y ∷ []) ++ joins c d v l.at l.side
       = after_queue c laws d v l.good l.at l.side (inside_from c l.at l.side l.low l.five)
@@ -206,18 +173,15 @@ module _ {P : Type 0} (c : Machine) (laws : Lawful c) (depth_some : 0 < depth c)
   unfolding grants
   lone_ripe v l f =
       let g = granted c laws d v l.at (towards c l.at e) f in
-      let same : g.x ∷ [] ≡ l.y ∷ [] = sym g.sends ∙ lone_sent v l f in
-      let y : g.x ≡ l.y = cc in
-      (eqb-true _ _ (and_parts _ _ f).0, omega (arith, g.ripe, ap (λ (a : Packet P). a.ready) y))
+      (eqb-true _ _ (and_parts _ _ f).0, grind (arith, g.ripe, g.sends, lone_sent v l f))
 
   here : (v : View P) (l : Lone c d r e x v) → l.at ≡ e → grants c d v l.at (towards c l.at e) ≡ true
-      → In (record { cycle = v.cycle; router = e; source = r; payload = x }) (delivers c d v)
-  unfolding delivers arrival In
+      → Contains (delivers c d v) (record { cycle = v.cycle; router = e; source = r; payload = x })
+  unfolding delivers arrival
   here v l q f =
-      let o : sends c d v e 4 ≡ l.y ∷ [] = ap (sends c d v e) (sym (laws.arrived e he))
-      ∙ ap (λ (a : ℕ). sends c d v a (towards c a e)) (sym q) ∙ lone_sent v l f in
+      let o : sends c d v e 4 ≡ l.y ∷ [] = grind (arith, laws.arrived e he, lone_sent v l f) in
       in_joined _ (λ k. map (arrival v.cycle k) (sends c d v k 4)) 0 (routers c) e (omega arith) (omega arith)
-      (rw o (inl (λ i. record { cycle = v.cycle; router = e; source = sym l.source i; payload = sym l.payload i })))
+      (rw o (0, omega arith, (λ i. record { cycle = v.cycle; router = e; source = l.source i; payload = l.payload i })))
 
   -- where it stands after a cycle: delivered, a hop on, or where it was
   pub record Onward (v : View P) (a when : ℕ) : Type 0 where
@@ -227,7 +191,7 @@ module _ {P : Type 0} (c : Machine) (laws : Lawful c) (depth_some : 0 < depth c)
 
   pub data Fate (v : View P) (l : Lone c d r e x v) : Type 0 where
     arrives : l.at ≡ e → owner c l.at (towards c l.at e) v.cycle ≡ d → l.y.ready ≤ v.cycle
-        → In (record { cycle = v.cycle; router = e; source = r; payload = x }) (delivers c d v) → Fate v l
+        → Contains (delivers c d v) (record { cycle = v.cycle; router = e; source = r; payload = x }) → Fate v l
     goes_on : (s : ℕ) → owner c l.at (towards c l.at e) v.cycle ≡ d → l.y.ready ≤ v.cycle
         → beyond c l.at (towards c l.at e) ≡ s ∷ [] → distance c s e + 1 ≡ distance c l.at e → Onward v s (v.cycle + hop c)
         → Fate v l
@@ -244,7 +208,7 @@ module _ {P : Type 0} (c : Machine) (laws : Lawful c) (depth_some : 0 < depth c)
       goes_on n.0 o.0 o.1 n.1 n.2 (record { lone = lone_moves v l q o.0 o.1; at = refl; ready = refl }))
       (cases_eq l.at e))
       (λ (f : grants c d v l.at (towards c l.at e) ≡ false).
-      waits (λ o k. clash (lone_granted v l o k) f) (record { lone = lone_waits v l (λ w. clash w f); at = refl; ready = refl }))
+      waits (λ o k. both_ways _ f (lone_granted v l o k)) (record { lone = lone_waits v l (both_ways _ f); at = refl; ready = refl }))
       (cases_Bool (grants c d v l.at (towards c l.at e)))
 
   -- nothing is delivered while it is still held

@@ -1,5 +1,5 @@
 -- What `moved` leaves of each queue of tables that have just the needed lengths.
-use Rattle.std.proofs.Common.{◌≡◌, ℕ, ◌+◌, ◌*◌, ◌/◌, ◌%◌, ◌<◌, ◌≤◌, Bool, true, false, cond, List, [], ◌∷◌, ◌++◌, map, length, get_or, drop, sym, refl, ap, ◌∙◌, ap₂, arith}
+use Rattle.std.proofs.Common.{◌≡◌, ℕ, ◌+◌, ◌*◌, ◌/◌, ◌%◌, ◌<◌, ◌≤◌, Bool, true, cond, List, [], ◌∷◌, ◌++◌, map, length, get_or, drop, ap, ◌∙◌, ap₂, arith}
 use lib.Arith.{digits_lt, digits_div, digits_mod}
 use Rattle.machine.specs.declared.tables.Place.{Place}
 use Rattle.machine.specs.Machine.{Machine, depth, queues}
@@ -30,9 +30,7 @@ packet_from p x = record { destination = p.destination; source = p.source; ready
 packet_after : {P : Type 0} (here : Bool) (joining : List (Packet P)) (p : Place) (x : P)
     → packet_from (place_after here joining p) (payload_after here joining x) ∷ [] ≡ pick here joining (packet_from p x ∷ [])
 unfolding pick place_after payload_after
-packet_after here [] p x = refl
-packet_after true (y ∷ joining) p x = refl
-packet_after false (y ∷ joining) p x = refl
+packet_after here joining p x = grind arith
 
 module _ {P : Type 0} (c : Machine) (some : 0 < depth c) (t : Tables P) (exact : Exact c t) where
   one_packet : (k : ℕ) → k < queues c * depth c → length (packet_at t k) ≡ 1
@@ -84,9 +82,7 @@ module _ {P : Type 0} (c : Machine) (some : 0 < depth c) (t : Tables P) (exact :
         (omega (arith, exact.payload_table)) in
         let load : at (moved c s cycle t).payloads n ≡ payload_after (here q k) (s.joining q) e.0 ∷ [] =
         e.2 ∙ ap₂ (λ (x y : ℕ). payload_after (here x y) (s.joining x) e.0 ∷ []) eq ek in
-        ap₂ (λ (p : Place) (ys : List P). map (packet_from p) ys) place load
-        ∙ (packet_after (here q k) (s.joining q) (place_at t n) e.0
-        ∙ ap (λ (ys : List P). pick (here q k) (s.joining q) (map (packet_from (place_at t n)) ys)) (sym e.1))
+        grind (arith, place, load, e.1, packet_after (here q k) (s.joining q) (place_at t n) e.0)
 
     pub packets_moved : (q : ℕ) → q < queues c → Can c s t q
         → packets c (moved c s cycle t) q ≡ cond (s.leaving q) (drop 1 (packets c t q)) (packets c t q) ++ s.joining q

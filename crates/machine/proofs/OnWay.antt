@@ -1,8 +1,8 @@
 -- Through every call of a domain's own machine each of its packets is at a queue of its way.
-use Rattle.std.proofs.Common.{◌≡◌, ℕ, ◌<◌, Bool, true, false, cond, ◌&&◌, eqb, List, [], ◌∷◌, sym, refl, arith}
+use Rattle.std.proofs.Common.{◌≡◌, ℕ, ◌<◌, true, ◌&&◌, eqb, List, [], ◌∷◌, sym, arith}
 use Rattle.std.specs.List.{AllByRecursion}
 use Rattle.std.proofs.ByRecursion.{All-append}
-use Rattle.std.proofs.lemmas.Bool.{eqb-true}
+use Rattle.std.proofs.lemmas.Bool.{cond_both, and_parts, eqb-true}
 use Rattle.machine.specs.Calls.{fresh}
 use Rattle.machine.specs.Machine.{Machine, routers, inside}
 use Rattle.machine.specs.Packets.{View}
@@ -16,25 +16,21 @@ use Rattle.machine.proofs.Track.{track, OnWay, AllOnWay, on_way_after}
 module _ {P : Type 0} (c : Machine) (v : View P) (good : AllOnWay c v) (r f : ℕ) (x : P) (hr : r < routers c) (hf : f < routers c) where
   pub on_way_added : AllOnWay c (added c r (fresh v.cycle r f x) v)
   unfolding added fresh track
-  on_way_added a i = go (inside c a i) refl
+  on_way_added a i =
+      cond_both (inside c a i) _ [] (AllByRecursion (OnWay c a i)) (λ _. All-append _ _ _ (good a i)
+      (cond_both (eqb a r && eqb i 4) (fresh v.cycle r f x ∷ []) [] (AllByRecursion (OnWay c a i)) new (λ _. tt))) (λ _. tt)
     where
-      new : (b g : Bool) → eqb a r ≡ b → eqb i 4 ≡ g → AllByRecursion (OnWay c a i) (cond (b && g) (fresh v.cycle r f x ∷ []) [])
-      new true true p q = (
+      new : (eqb a r && eqb i 4) ≡ true → AllByRecursion (OnWay c a i) (fresh v.cycle r f x ∷ [])
+      new e = let p = and_parts (eqb a r) (eqb i 4) e in (
         record {
           destination = hf;
           source = hr;
           k = 0;
           within = omega arith;
-          here = λ j. (sym (eqb-true a r p) j, sym (eqb-true i 4 q) j);
+          here = λ j. (sym (eqb-true a r p.0) j, sym (eqb-true i 4 p.1) j);
         },
         tt,
       )
-      new true false p q = tt
-      new false g p q = tt
-
-      go : (b : Bool) → inside c a i ≡ b → AllByRecursion (OnWay c a i) ((added c r (fresh v.cycle r f x) v).queue a i)
-      go true h = rw h (All-append _ _ _ (good a i) (new (eqb a r) (eqb i 4) refl refl))
-      go false h = rw h tt
 
 module _ {P : Type 0} (c : Machine) (laws : Lawful c) (d : ℕ) where
   pub on_way_next : (v : View P) → AllOnWay c v → (call : Asked P) → AllOnWay c (own_next c d v call)

@@ -2,7 +2,8 @@
 use Rattle.std.proofs.Common.{◌≡◌, ℕ, zero, suc, ◌+◌, ◌*◌, ◌<◌, ◌≤◌, Bool, true, false, cond, ◌&&◌, eqb, List, [], ◌∷◌, ◌++◌, map, length, get_or, take, Ok, Err, sym, refl, ap, ◌∙◌, subst, ap₂, ⊎_elim, arith}
 use mathlib.Core.Path.{fun_ext}
 use Rattle.std.specs.List.{range_with_len, flat_map}
-use Rattle.std.proofs.lemmas.Bool.{cases_Bool, and_parts, leb-true, eqb-true, cond-true, cond-false}
+use Rattle.std.proofs.Math.Seq.{take-nil}
+use Rattle.std.proofs.lemmas.Bool.{cases_Bool, and_parts, leb-true, cond-true}
 use Rattle.schedule.specs.declared.refusal.Refusal.{Refusal}
 use Rattle.machine.specs.declared.tables.Delivery.{Delivery}
 use Rattle.machine.specs.declared.tables.Queue.{Queue}
@@ -39,28 +40,15 @@ module _ {P : Type 0} (c : Machine) (t : Tables P) (call : Call P) where
 module _ {P : Type 0} (c : Machine) (t : Tables P) where
   tables_unchanged : (a : Answer) (call : Call P) → (unchanged a t call).tables ≡ t
   unfolding unchanged
-  tables_unchanged a (inject r d e x) = refl
-  tables_unchanged a (room r d) = refl
-  tables_unchanged a (step ds gs) = refl
-
-  answer_unchanged : (a : Answer) (call : Call P) → (unchanged a t call).answer ≡ a
-  unfolding unchanged
-  answer_unchanged a (inject r d e x) = refl
-  answer_unchanged a (room r d) = refl
-  answer_unchanged a (step ds gs) = refl
+  tables_unchanged a call = grind arith
 
   answer_accepted : (call : Call P) → (accepted c t call).answer ≡ answer_to c t call
   unfolding accepted
-  answer_accepted (inject r d e x) = refl
-  answer_accepted (room r d) = refl
-  answer_accepted (step ds gs) = refl
+  answer_accepted call = grind arith
 
   outcome_answer : (call : Call P) → (outcome c t call).answer ≡ answer_to c t call
-  outcome_answer call = go (answer_to c t call) refl
-    where
-      go : (a : Answer) → answer_to c t call ≡ a → (outcome c t call).answer ≡ answer_to c t call
-      go (Ok n) h = ap (λ (o : Outcome P). o.answer) (when_accepted c t call n h) ∙ answer_accepted call
-      go (Err why) h = ap (λ (o : Outcome P). o.answer) (when_refused c t call why h) ∙ answer_unchanged _ call
+  unfolding outcome if_accepted accepted unchanged answer_to
+  outcome_answer call = grind arith
 
   -- a call by the lengths of the tables that it is lent
   asked_of : Call P → Asked P
@@ -90,8 +78,7 @@ module _ {P : Type 0} (c : Machine) (t : Tables P) (d : ℕ) where
 
   other_record : (n r : ℕ) (g : P) (xs : List (Packet P)) → eqb n d ≡ false → record_at n r g xs ≡ []
   unfolding record_at record_of
-  other_record n r g [] k = refl
-  other_record n r g (x ∷ xs) k = cond-false _ _ _ k
+  other_record n r g xs k = grind arith
 
   not_owned : (r p : ℕ) → eqb (owner c r p t.cycle) d ≡ false → sends c d (view c t d) r p ≡ []
   unfolding sends grants view
@@ -100,9 +87,8 @@ module _ {P : Type 0} (c : Machine) (t : Tables P) (d : ℕ) where
   one_record : (r : ℕ) (g : P) (b : Bool) → eqb (owner c r 4 t.cycle) d ≡ b
       → record_at (owner c r 4 t.cycle) r g (handed_over c t r) ≡ map (arrival t.cycle r) (sends c d (view c t d) r 4)
   unfolding handed_over
-  one_record r g true k =
-      own_record _ r g _ (sends_one c _ _ r 4) k ∙ ap (λ (e : ℕ). map (arrival t.cycle r) (sends c e (view c t e) r 4)) (eqb-true _ _ k)
-  one_record r g false k = other_record _ r g _ k ∙ sym (ap (map (arrival t.cycle r)) (not_owned r 4 k))
+  one_record r g true k = grind (arith, own_record (owner c r 4 t.cycle) r g (handed_over c t r) (sends_one c _ _ r 4) k)
+  one_record r g false k = grind (arith, other_record (owner c r 4 t.cycle) r g (handed_over c t r) k, not_owned r 4 k)
 
   records : (a n : ℕ) (ds : List Delivery) (gs : List P) → n ≤ length ds → n ≤ length gs
       → marked t.cycle d a (take n (edit a n (λ r _. record_of (owner c r 4 t.cycle) (handed_over c t r)) ds))
@@ -114,15 +100,6 @@ module _ {P : Type 0} (c : Machine) (t : Tables P) (d : ℕ) where
   records a (suc n) (x ∷ ds) [] h k = absurd (omega arith)
   records a (suc n) (x ∷ ds) (g ∷ gs) h k =
       ap₂ ◌++◌ (one_record a g (eqb (owner c a 4 t.cycle) d) refl) (records (a + 1) n ds gs (omega arith) (omega arith))
-
-same_either : {X : Type 0} {x : X} (a : Answer) → x ≡ if_accepted a x x
-unfolding if_accepted
-same_either (Ok n) = refl
-same_either (Err why) = refl
-
-take_none : (X : Type 0) (n : ℕ) → take {A = X} n [] ≡ []
-take_none X zero = refl
-take_none X (suc n) = refl
 
 module _ {P : Type 0} (c : Machine) (kept : Kept c) (t : Tables P) (exact : Exact c t) (e : Event P) where
   lengths_lent : (n k : ℕ) → lengths (lend e t) n k ≡ lent_lengths c e n k
@@ -232,9 +209,7 @@ module _ {P : Type 0} (c : Machine) (kept : Kept c) (t : Tables P) (exact : Exac
 
   then_refused : (call : Asked P) (why : Refusal) → answered c t call ≡ Err why → then c t call ≡ t
   unfolding then if_accepted
-  then_refused (runs.inject l r d f x) why h = rw h
-  then_refused (runs.room l r d) why h = refl
-  then_refused (runs.step l) why h = rw h
+  then_refused call why h = grind arith
 
   tables_same : (call : Call P) (a : Answer) → answered c t (asked_by c e call) ≡ a
       → take_back t (outcome c (lend e t) call).tables ≡ then c t (asked_by c e call)
@@ -271,9 +246,9 @@ module _ {P : Type 0} (c : Machine) (kept : Kept c) (t : Tables P) (exact : Exac
       ≡ told d (asked_by c e call)
   unfolding accepted asked_by marked told delivers view
   told_accepted d (inject r f g x) n h =
-      ap (λ (l : List Delivery). marked t.cycle d 0 l (take (routers c) [])) (take_none Delivery (routers c))
+      ap (λ (l : List Delivery). marked t.cycle d 0 l (take (routers c) [])) (take-nil (routers c))
   told_accepted d (room r f) n h =
-      ap (λ (l : List Delivery). marked t.cycle d 0 l (take (routers c) [])) (take_none Delivery (routers c))
+      ap (λ (l : List Delivery). marked t.cycle d 0 l (take (routers c) [])) (take-nil (routers c))
   told_accepted d (step ds gs) n h =
       let b = whole (step ds gs) n h in
       let R : ℕ = routers c in
@@ -286,9 +261,7 @@ module _ {P : Type 0} (c : Machine) (kept : Kept c) (t : Tables P) (exact : Exac
 
   told_own : (d : ℕ) (call : Asked P) → own_deliveries c d (view c t d) call ≡ if_accepted (own_answer c (view c t d) call) (told d call) []
   unfolding own_deliveries told if_accepted
-  told_own d (runs.inject l r n f x) = same_either _
-  told_own d (runs.room l r n) = same_either _
-  told_own d (runs.step l) = refl
+  told_own d call = grind arith
 
   deliveries_same : (d : ℕ) (call : Call P) (a : Answer) → answered c t (asked_by c e call) ≡ a
       → deliveries c t.cycle d (outcome c (lend e t) call) ≡ if_accepted a (told d (asked_by c e call)) []

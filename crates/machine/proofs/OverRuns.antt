@@ -1,16 +1,15 @@
 -- A run, as one domain has it, is a run of its own machine: isolated, in order, with nothing lost and no table unsound.
 use Rattle.std.proofs.Common.{◌≡◌, ℕ, ◌*◌, ◌<◌, ◌≤◌, Bool, true, false, List, [], ◌∷◌, ◌++◌, length, get_or, take, sym, refl, ap, ◌∙◌, ap₂, arith}
 use Rattle.std.proofs.lemmas.List.{get_or-take, length-take-le}
-use Rattle.std.proofs.lemmas.Bool.{and_parts, leb-true}
-use Rattle.machine.specs.Calls.{lengths, long_enough, opened, opening_answer, opening_refusal}
-use Rattle.machine.specs.Machine.{Machine, depth, domains, inside, queues, routers, queue_number}
+use Rattle.machine.specs.Calls.{check, answer, lengths, long_enough, opened, opening_answer, opening_refusal}
+use Rattle.machine.specs.Machine.{Machine, depth, domains, inside, queues, routers}
 use Rattle.machine.specs.Moves.{edit}
 use Rattle.machine.specs.Packets.{View}
 use Rattle.machine.specs.Promise.{Opens, Isolated, InOrder, NothingLost, NeverUnsound, payloads_in, payloads_out, count_in, count_out, held}
 use Rattle.machine.specs.Runs.{Event, asked, next, run, new, concerns, calls_of, note, notes}
 use Rattle.machine.specs.Tables.{Tables, no_packets, queue_at, packets, view}
 use Rattle.machine.proofs.Balance.{all_held, own_balance}
-use Rattle.machine.proofs.Checks.{passes, not_unsound}
+use Rattle.machine.proofs.Checks.{not_unsound}
 use Rattle.machine.proofs.Edits.{length_edit, getD_edit}
 use Rattle.machine.proofs.Isolation.{answered}
 use Rattle.machine.proofs.Laws.{Kept}
@@ -18,7 +17,7 @@ use Rattle.machine.proofs.Moved.{length_packets}
 use Rattle.machine.proofs.OneCall.{answer_asked, next_intact, other_view, own_answered, own_view, own_delivered}
 use Rattle.machine.proofs.Order.{own_order}
 use Rattle.machine.proofs.OwnMachine.{own_notes, own_run, nothing}
-use Rattle.machine.proofs.QueueNumbers.{inside_parts, inside_from, queue_number_lt}
+use Rattle.machine.proofs.QueueNumbers.{number_inside, inside_from, queue_number_lt}
 use Rattle.machine.proofs.Soundness.{Intact, sound_from}
 use Rattle.machine.proofs.Totals.{total_ext}
 use Rattle.machine.proofs.Views.{same_view, queue_in, queue_out, word_in, word_out}
@@ -64,12 +63,8 @@ module _ {P : Type 0} (c : Machine) (kept : Kept c) where
 module _ {P : Type 0} (c : Machine) (kept : Kept c) (t : Tables P) (opens : Opens c t) where
   long : (queues c ≤ length t.queues) × (queues c * depth c ≤ length t.places)
       × (queues c * depth c ≤ length t.payloads) × (queues c ≤ length t.words)
-  unfolding long_enough lengths opening_answer opening_refusal
-  long =
-      let p = and_parts _ _ (passes (long_enough c (lengths t 0 0)) _ _ _ _ opens).0 in
-      let q = and_parts _ _ p.1 in
-      let o = and_parts _ _ q.1 in
-      (leb-true _ _ p.0, leb-true _ _ q.0, leb-true _ _ o.0, leb-true _ _ o.1)
+  unfolding long_enough lengths opening_answer opening_refusal check answer
+  long = grind arith
 
   filled : {X : Type 0} (x z : X) (xs : List X) (q : ℕ) → queues c ≤ length xs → q < queues c
       → get_or (take (queues c) (edit 0 (queues c) (λ _ _. x) xs)) q z ≡ x
@@ -101,18 +96,14 @@ module _ {P : Type 0} (c : Machine) (kept : Kept c) (t : Tables P) (opens : Open
 
   new_view : (d : ℕ) → d < domains c → view c (new c t) d ≡ nothing
   unfolding new opened nothing view
-  new_view d hd = same_view _ _ refl (λ r i. queue r i (inside c r i) refl) (λ r i. word r i (inside c r i) refl)
+  new_view d hd = same_view _ _ refl (λ r i. side r i (inside c r i) refl)
     where
-      number_lt : (r i : ℕ) → inside c r i ≡ true → queue_number c r i d < queues c
-      number_lt r i e = let p = inside_parts c r i e in queue_number_lt c r i d p.0 p.1 hd
-
-      queue : (r i : ℕ) (b : Bool) → inside c r i ≡ b → (view c (new c t) d).queue r i ≡ []
-      queue r i true e = queue_in c (new c t) d r i e ∙ new_packets _ (number_lt r i e)
-      queue r i false e = queue_out c (new c t) d r i e
-
-      word : (r i : ℕ) (b : Bool) → inside c r i ≡ b → (view c (new c t) d).word r i ≡ 0
-      word r i true e = word_in c (new c t) d r i e ∙ filled 0 0 t.words _ long.3 (number_lt r i e)
-      word r i false e = word_out c (new c t) d r i e
+      side : (r i : ℕ) (b : Bool) → inside c r i ≡ b → ((view c (new c t) d).queue r i ≡ []) × ((view c (new c t) d).word r i ≡ 0)
+      side r i true e = let l = number_inside c r i d e hd in (
+        queue_in c (new c t) d r i e ∙ new_packets _ l,
+        word_in c (new c t) d r i e ∙ filled 0 0 t.words _ long.3 l,
+      )
+      side r i false e = (queue_out c (new c t) d r i e, word_out c (new c t) d r i e)
 
   module _ (es : List (Event P)) where
     pub run_intact : Intact c (run c (new c t) es)

@@ -1,19 +1,18 @@
 -- Queue numbers: router, side and domain to and fro.
-use Rattle.std.proofs.Common.{◌≡◌, ℕ, zero, suc, ◌+◌, ◌*◌, ◌/◌, ◌%◌, ◌<◌, true, ltb, ap, ◌∙◌, mod-lt, div-add-mod', arith}
+use Rattle.std.proofs.Common.{◌≡◌, ℕ, ◌+◌, ◌*◌, ◌/◌, ◌%◌, ◌<◌, true, ap, ◌∙◌, mod-lt, div-add-mod', arith}
 use lib.Arith.{digits_lt, digits_div, digits_mod}
 use Rattle.std.proofs.lemmas.Nat.{div_below}
-use Rattle.std.proofs.lemmas.Bool.{and_parts, and_from, ltb-true, lt-ltb}
 use Rattle.machine.specs.Machine.{Machine, inside, routers, queues, queue_number, domains}
 use Rattle.machine.specs.Moves.{domain_of, side_of, router_of}
 
 module _ (c : Machine) where
   pub inside_parts : (r i : ℕ) → inside c r i ≡ true → (r < routers c) × (i < 5)
   unfolding inside
-  inside_parts r i e = let p = and_parts (ltb r (routers c)) (ltb i 5) e in (ltb-true _ _ p.0, ltb-true _ _ p.1)
+  inside_parts r i e = grind arith
 
   pub inside_from : (r i : ℕ) → r < routers c → i < 5 → inside c r i ≡ true
   unfolding inside
-  inside_from r i h k = and_from _ _ (lt-ltb _ _ h) (lt-ltb _ _ k)
+  inside_from r i h k = grind arith
 
   module _ (r i d : ℕ) (hr : r < routers c) (hi : i < 5) (hd : d < domains c) where
     pub queue_number_lt : queue_number c r i d < queues c
@@ -32,14 +31,13 @@ module _ (c : Machine) where
     unfolding queue_number router_of
     router_queue_number = ap (λ (x : ℕ). x / 5) (digits_div (r * 5 + i) hd) ∙ digits_div r hi
 
+  pub number_inside : (r i d : ℕ) → inside c r i ≡ true → d < domains c → queue_number c r i d < queues c
+  number_inside r i d e hd = let p = inside_parts r i e in queue_number_lt r i d p.0 p.1 hd
+
   module _ (q : ℕ) (h : q < queues c) where
     domains_some : 0 < domains c
     unfolding queues
-    domains_some = go (domains c) h
-      where
-        go : (d : ℕ) → q < routers c * 5 * d → 0 < d
-        go zero k = omega arith
-        go (suc d) k = omega arith
+    domains_some = grind arith
 
     pub domain_lt : domain_of c q < domains c
     unfolding domain_of

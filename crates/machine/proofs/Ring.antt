@@ -1,9 +1,9 @@
 -- A ring of places: what is left of it where the first entry leaves and one joins behind the last.
-use Rattle.std.proofs.Common.{◌≡◌, ℕ, zero, suc, ◌+◌, ◌-◌, ◌%◌, ◌<◌, ◌≤◌, Bool, true, false, cond, eqb, ◌⊎◌, List, [], ◌∷◌, ◌++◌, length, drop, sym, refl, ap, ◌∙◌, ap₂, inl, inr, ⊎_elim, mod-lt, mod-eq_of_lt, arith}
+use Rattle.std.proofs.Common.{◌≡◌, ℕ, zero, suc, ◌+◌, ◌-◌, ◌%◌, ◌<◌, ◌≤◌, Bool, true, false, cond, eqb, List, [], ◌∷◌, ◌++◌, length, drop, sym, refl, ap, ◌∙◌, ap₂, mod-lt, mod-eq_of_lt, arith}
 use native.Mathlib.Nat.{mod-eq-sub-mod, mod-add-mod}
 use Rattle.std.specs.List.{range_with_len, flat_map}
 use Rattle.std.proofs.lemmas.List.{append-nil, append_assoc, drop_at, length-append}
-use Rattle.std.proofs.lemmas.Bool.{cases_lt, eq-eqb, ne_eqb}
+use Rattle.std.proofs.lemmas.Bool.{eq-eqb, ne_eqb}
 use Rattle.machine.specs.Cycle.{bit}
 
 -- n entries of a ring of b places from place f on; each place gives a list
@@ -27,38 +27,25 @@ joined_shift p q a zero h = refl
 joined_shift p q a (suc n) h = ap₂ ◌++◌ (h a) (joined_shift p q (a + 1) n h)
 
 joined_last : {X : Type 0} (p : ℕ → List X) (a n : ℕ) → flat_map p (range_with_len a (suc n)) ≡ flat_map p (range_with_len a n) ++ p (a + n)
-joined_last p a zero = append-nil (p a) ∙ ap p (omega arith)
-joined_last p a (suc n) =
-    ap (λ l. p a ++ l) (joined_last p (a + 1) n ∙ ap (λ j. flat_map p (range_with_len (a + 1) n) ++ p j) (omega arith))
-    ∙ sym (append_assoc (p a) (flat_map p (range_with_len (a + 1) n)) (p (a + suc n)))
+joined_last p a zero = grind (arith, append-nil)
+joined_last p a (suc n) = grind (arith, append_assoc, joined_last p (a + 1) n)
 
 joined_length : {X : Type 0} (p : ℕ → List X) (a n : ℕ) → ((j : ℕ) → length (p j) ≡ 1) → length (flat_map p (range_with_len a n)) ≡ n
 joined_length p a zero h = refl
 joined_length p a (suc n) h = omega (arith, length-append (p a) (flat_map p (range_with_len (a + 1) n)), h a, joined_length p (a + 1) n h)
 
--- below 2 b one b less at most
-wrap : (b x : ℕ) → x < b + b → ((x < b) × (x % b ≡ x)) ⊎ ((b ≤ x) × (x % b ≡ x - b))
-wrap b x h =
-    ⊎_elim (λ (l : x < b). inl (l, mod-eq_of_lt l))
-    (λ (l : b ≤ x). let k : x - b < b = omega arith in inr (l, mod-eq-sub-mod l ∙ mod-eq_of_lt k)) (cases_lt x b)
-
 -- fewer than b places on is another place
 apart : (b f j n : ℕ) → f < b → j < n → n < b → (f + j) % b ≡ (f + n) % b → ⊥
-apart b f j n h k l e =
-    ⊎_elim (λ u. ⊎_elim (λ v. omega (arith, u.0, u.1, v.1)) (λ v. omega (arith, u.1, v.0, v.1)) (wrap b (f + n) (omega arith)))
-    (λ u. ⊎_elim (λ v. omega (arith, u.0, u.1, v.0)) (λ v. omega (arith, u.0, u.1, v.0, v.1)) (wrap b (f + n) (omega arith)))
-    (wrap b (f + j) (omega arith))
+apart b f j n h k l e = grind (arith, mod-eq-sub-mod, mod-eq_of_lt)
 
 -- what leaves does not move the end
 ring_end : (b f n : ℕ) (leaving : Bool) → (leaving ≡ true → 0 < n)
     → (cond leaving ((f + 1) % b) f + (n - bit leaving 1)) % b ≡ (f + n) % b
 unfolding bit
-ring_end b f n false h = ap (λ (x : ℕ). x % b) (omega arith)
-ring_end b f n true h = let k : 0 < n = h refl in mod-add-mod (f + 1) b (n - 1) ∙ ap (λ (x : ℕ). x % b) (omega arith)
+ring_end b f n leaving h = grind (arith, mod-add-mod (f + 1) b (n - 1))
 
 pub ring_first : (b f : ℕ) (leaving : Bool) → f < b → cond leaving ((f + 1) % b) f < b
-ring_first b f false h = h
-ring_first b f true h = mod-lt (f + 1) (omega arith)
+ring_first b f leaving h = grind (arith, mod-lt)
 
 module _ {X : Type 0} (b : ℕ) (some : 0 < b) (g : ℕ → List X) (one : (k : ℕ) → k < b → length (g k) ≡ 1) where
   pub ring_length : (f n : ℕ) → length (ring b g f n) ≡ n
@@ -89,8 +76,8 @@ module _ {X : Type 0} (b : ℕ) (some : 0 < b) (g : ℕ → List X) (one : (k : 
       ≡ cond leaving (drop 1 (ring b g f n)) (ring b g f n) ++ joining
   unfolding pick ring
   ring_moved f n h leaving [] hf ho hl hr same =
-      ring_agree h (cond leaving ((f + 1) % b) f) (n - bit leaving 1 + 0) (λ j l. same _ (mod-lt _ some))
-      ∙ (ap (ring b g (cond leaving ((f + 1) % b) f)) (omega arith) ∙ (ring_leave f n leaving ho ∙ sym (append-nil _)))
+      let agree = ring_agree h (cond leaving ((f + 1) % b) f) (n - bit leaving 1) (λ j l. same _ (mod-lt _ some)) in
+      grind (arith, append-nil, agree, ring_leave f n leaving ho)
   ring_moved f n h leaving (x ∷ []) hf ho hl hr same =
       let f' : ℕ = cond leaving ((f + 1) % b) f in
       let n' : ℕ = n - bit leaving 1 in

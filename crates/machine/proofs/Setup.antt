@@ -1,10 +1,10 @@
 -- Every plan, arbiter and route rule keep what the lemmas about runs want.
-use Rattle.std.proofs.Common.{◌≡◌, ℕ, suc, ◌+◌, ◌-◌, ◌%◌, ◌<◌, ◌≤◌, Bool, true, false, eqb, List, [], ◌∷◌, length, get_or, take, Option, sym, refl, ap, ◌∙◌, mod-lt, mod-eq_of_lt, mul-pos, arith, length-append, length-take}
+use Rattle.std.proofs.Common.{⊎_elim, ◌≡◌, ℕ, suc, ◌+◌, ◌-◌, ◌%◌, ◌<◌, ◌≤◌, List, [], ◌∷◌, length, get_or, take, Option, sym, ap, ◌∙◌, mod-lt, mod-eq_of_lt, mul-pos, arith, length-append, length-take}
 use lib.ListN.{length-replicate}
 use Rattle.std.specs.Option.{option_map, option_to_list}
 use Rattle.std.proofs.lemmas.Nat.{div-add-mod'}
 use Rattle.std.proofs.lemmas.List.{length-take-le}
-use Rattle.std.proofs.lemmas.Bool.{eqb-true}
+use Rattle.std.proofs.lemmas.Bool.{cases_eq}
 use Rattle.schedule.specs.declared.geometry.Position.{Position}
 use Rattle.schedule.specs.declared.plan.Plan.{Plan}
 use Rattle.schedule.specs.Mesh.{position_of, router_at, hops}
@@ -67,12 +67,8 @@ module _ (c : Machine) (routes : Routes c.route) (w8 : c.timetable.sizes.width �
 -- a domain that some slots name is named by one
 some_slot : (slots : List ℕ) (d : ℕ) → 1 ≤ share slots d → (k : ℕ) × (k < length slots) × (get_or slots k 0 ≡ d)
 some_slot [] d h = absurd (omega arith)
-some_slot (x ∷ slots) d h = go (eqb x d) refl (some_slot slots d)
-  where
-    go : (b : Bool) → eqb x d ≡ b → (1 ≤ share slots d → (k : ℕ) × (k < length slots) × (get_or slots k 0 ≡ d))
-        → (k : ℕ) × (k < length (x ∷ slots)) × (get_or (x ∷ slots) k 0 ≡ d)
-    go true e f = (0, omega arith, eqb-true x d e)
-    go false e f = let r = f (rw e at h) in (suc r.0, omega (arith, r.1), r.2)
+some_slot (x ∷ slots) d h = ⊎_elim (λ (e : x ≡ d). (0, omega arith, e))
+    (λ (n : x ≡ d → ⊥). let r = some_slot slots d (grind arith) in (suc r.0, omega (arith, r.1), r.2)) (cases_eq x d)
 
 module _ (c : Machine) (period : ℕ) (counted : length c.timetable.slots ≡ period) where
   turn_of : DomainsHaveSlots (domains c) c.timetable.slots → (d : ℕ) → d < domains c

@@ -1,22 +1,18 @@
 -- The number of a set of asking sides tells of each side whether it asks.
-use Rattle.std.proofs.Common.{◌≡◌, ℕ, zero, suc, ◌+◌, ◌*◌, ◌/◌, ◌%◌, ◌<◌, ◌≤◌, Bool, true, false, eqb, refl, ap, ◌∙◌, ⊎_elim, mod-eq_of_lt, arith}
+use Rattle.std.proofs.Common.{◌≡◌, ℕ, zero, suc, ◌+◌, ◌*◌, ◌/◌, ◌%◌, ◌<◌, ◌≤◌, Bool, true, false, eqb, ap, ◌∙◌, mod-eq_of_lt, arith}
 use Rattle.rules.specs.Arbiters as arbiters
-use Rattle.std.proofs.lemmas.Bool.{cases_lt}
 use Rattle.machine.specs.Cycle.{asks, bit, asking}
 use Rattle.machine.specs.Machine.{Machine}
 use Rattle.machine.specs.Packets.{View}
-use Rattle.machine.proofs.Choices.{clash}
 
 -- a side in a set of sides adds its value times one or nothing
 digit : (b : Bool) (value : ℕ) → (bit b value ≡ value * bit b 1) × (bit b 1 ≤ 1)
 unfolding bit
-digit true value = (omega arith, omega arith)
-digit false value = (omega arith, omega arith)
+digit b value = grind arith
 
 is_one : (b : Bool) (n : ℕ) → n ≡ bit b 1 → eqb n 1 ≡ b
 unfolding bit
-is_one true n e = rw e
-is_one false n e = rw e
+is_one b n e = grind arith
 
 module _ (a b c d e : Bool) where
   abbrev set : ℕ
@@ -49,17 +45,8 @@ module _ {P : Type 0} (c : Machine) (v : View P) (r p : ℕ) where
   asking_low = (digits _ _ _ _ _).0
 
 none_ask : (i : ℕ) → i < 5 → arbiters.asks 0 i ≡ false
-none_ask zero h = refl
-none_ask (suc zero) h = refl
-none_ask (suc (suc zero)) h = refl
-none_ask (suc (suc (suc zero))) h = refl
-none_ask (suc (suc (suc (suc zero)))) h = refl
-none_ask (suc (suc (suc (suc (suc i))))) h = absurd (omega arith)
+none_ask i h = grind arith
 
 -- where a side asks, the set is not empty
 pub some_asks : {P : Type 0} (c : Machine) (v : View P) (r p i : ℕ) → i < 5 → asks c v.cycle r p (v.queue r i) ≡ true → 0 < asking c v r p
-some_asks c v r p i h a = ⊎_elim (λ (k : 0 < asking c v r p). k)
-    (λ (k : asking c v r p ≤ 0).
-    let z : 0 ≡ asking c v r p = omega arith in
-    clash (ap (λ (n : ℕ). arbiters.asks n i) z ∙ (asking_tells c v r p i h ∙ a)) (none_ask i h))
-    (cases_lt 0 (asking c v r p))
+some_asks c v r p i h a = grind (arith, asking_tells c v r p i h, none_ask i h)

@@ -1,8 +1,8 @@
 -- Tables that are sound stay so through every move of a cycle and of an injection.
-use Rattle.std.proofs.Common.{◌≡◌, ℕ, zero, suc, ◌+◌, ◌-◌, ◌<◌, ◌≤◌, Bool, true, false, cond, eqb, List, [], ◌∷◌, length, drop, sym, refl, ap, ◌∙◌, subst, arith}
+use Rattle.std.proofs.Common.{◌≡◌, ℕ, zero, suc, ◌+◌, ◌-◌, ◌<◌, ◌≤◌, Bool, true, cond, eqb, List, [], ◌∷◌, length, drop, refl, ap, ◌∙◌, arith}
 use Rattle.std.specs.List.{AllByRecursion}
 use Rattle.std.proofs.ByRecursion.{All-drop, All-weaker, All-append}
-use Rattle.std.proofs.lemmas.Bool.{and_from, lt-ltb, le-leb, eqb-true}
+use Rattle.std.proofs.lemmas.Bool.{cond_both, and_from, lt-ltb, le-leb, eqb-true}
 use Rattle.machine.specs.Cycle.{bit}
 use Rattle.machine.specs.Machine.{Machine, depth, domains, inside, queues}
 use Rattle.machine.specs.Moves.{Moves, moved, queue_after, cycle_moves, injection_moves, domain_of, side_of, router_of}
@@ -11,9 +11,9 @@ use Rattle.machine.specs.Tables.{Tables, queue_at, packets, view, sound_packet, 
 use Rattle.machine.proofs.Choices.{InLimits, leaves_some, joins_one, joins_fit, joins_ok}
 use Rattle.machine.proofs.Laws.{Kept}
 use Rattle.machine.proofs.Moved.{Exact, Can, exact_moved, record_moved, packets_moved, length_packets}
-use Rattle.machine.proofs.QueueNumbers.{inside_parts, inside_from, queue_number_of, domain_lt, side_lt, router_lt, queue_number_lt}
+use Rattle.machine.proofs.QueueNumbers.{number_inside, inside_from, queue_number_of, domain_lt, side_lt, router_lt}
 use Rattle.machine.proofs.Ring.{ring_first}
-use Rattle.machine.proofs.Views.{queue_in, queue_out}
+use Rattle.machine.proofs.Views.{queue_in}
 
 pub record SoundQueue {P : Type 0} (c : Machine) (t : Tables P) (q : ℕ) : Type 0 where
   pub first : (queue_at t q).first < depth c
@@ -33,10 +33,7 @@ all_below_from f (suc n) h = and_from _ _ (h n (omega arith)) (all_below_from f 
 packets_pass : {P : Type 0} (c : Machine) (cycle : ℕ) (xs : List (Packet P)) → AllByRecursion (InLimits c cycle) xs → sound_packets c cycle xs ≡ true
 unfolding sound_packets sound_packet
 packets_pass c cycle [] a = refl
-packets_pass c cycle (x ∷ xs) a =
-    let o = a.0 in
-    and_from _ _ (and_from _ _ (lt-ltb _ _ o.destination) (and_from _ _ (lt-ltb _ _ o.source) (le-leb _ _ o.ready)))
-    (packets_pass c cycle xs a.1)
+packets_pass c cycle (x ∷ xs) a = let o = a.0 in grind (arith, packets_pass c cycle xs a.1)
 
 -- the test says so
 pub sound_from : {P : Type 0} (c : Machine) (t : Tables P) → Intact c t → sound c t ≡ true
@@ -47,29 +44,21 @@ sound_from c t ok = all_below_from (sound_queue c t) (queues c) (λ q h.
 
 count_fits : (b n k : ℕ) (leaving : Bool) → k ≤ 1 → (0 < k → n < b) → n ≤ b → n - bit leaving 1 + k ≤ b
 unfolding bit
-count_fits b n zero leaving h f l = omega arith
-count_fits b n (suc k) true h f l = let e : n < b = f (omega arith) in omega arith
-count_fits b n (suc k) false h f l = let e : n < b = f (omega arith) in omega arith
+count_fits b n k leaving h f l = grind arith
 
 module _ {P : Type 0} (c : Machine) (kept : Kept c) (t : Tables P) (ok : Intact c t) where
   view_within : (d : ℕ) → d < domains c → (r i : ℕ) → AllByRecursion (InLimits c t.cycle) ((view c t d).queue r i)
-  view_within d hd r i = go (inside c r i) refl
-    where
-      go : (b : Bool) → inside c r i ≡ b → AllByRecursion (InLimits c t.cycle) ((view c t d).queue r i)
-      go true e = let p = inside_parts c r i e in
-          rw (queue_in c t d r i e) (ok.queue _ (queue_number_lt c r i d p.0 p.1 hd)).within
-      go false e = rw (queue_out c t d r i e) tt
+  unfolding view
+  view_within d hd r i =
+      cond_both (inside c r i) _ [] (AllByRecursion (InLimits c t.cycle))
+      (λ e. (ok.queue _ (number_inside c r i d e hd)).within) (λ _. tt)
 
   later : (cycle q : ℕ) → t.cycle ≤ cycle → (leaving : Bool) → AllByRecursion (InLimits c t.cycle) (packets c t q)
       → AllByRecursion (InLimits c cycle) (cond leaving (drop 1 (packets c t q)) (packets c t q))
-  later cycle q le leaving a = go leaving
-    where
-      all : AllByRecursion (InLimits c cycle) (packets c t q)
-      all = All-weaker _ _ (λ x o. record { destination = o.destination; source = o.source; ready = omega (arith, o.ready) }) _ a
-
-      go : (b : Bool) → AllByRecursion (InLimits c cycle) (cond b (drop 1 (packets c t q)) (packets c t q))
-      go true = All-drop _ 1 _ all
-      go false = all
+  later cycle q le leaving a =
+      let all : AllByRecursion (InLimits c cycle) (packets c t q) =
+      All-weaker _ _ (λ x o. record { destination = o.destination; source = o.source; ready = omega (arith, o.ready) }) _ a in
+      cond_both leaving _ _ (AllByRecursion (InLimits c cycle)) (λ _. All-drop _ 1 _ all) (λ _. all)
 
   -- after any possible moves
   intact_moved : (s : Moves P) (cycle : ℕ) → t.cycle ≤ cycle → ((q : ℕ) → q < queues c → Can c s t q)
@@ -112,28 +101,16 @@ module _ {P : Type 0} (c : Machine) (kept : Kept c) (t : Tables P) (ok : Intact 
 
   -- an injection's too
   module _ (q : ℕ) (x : Packet P) (full : (queue_at t q).count < depth c) where
-    one_if : (b : Bool) → length (cond b (x ∷ []) []) ≤ 1
-    one_if true = omega arith
-    one_if false = omega arith
-
-    only_if : (b : Bool) → 0 < length (cond b (x ∷ []) []) → b ≡ true
-    only_if true h = refl
-    only_if false h = absurd (omega arith)
-
-    all_if : (b : Bool) → InLimits c t.cycle x → AllByRecursion (InLimits c t.cycle) (cond b (x ∷ []) [])
-    all_if true o = (o, tt)
-    all_if false o = tt
-
     pub can_inject : (k : ℕ) → k < queues c → Can c (injection_moves t q x) t k
     unfolding injection_moves
     can_inject k h = record {
       first = (ok.queue k h).first;
       count = (ok.queue k h).count;
-      leaving = λ e. absurd (let z : ◌≡◌ {A = ℕ} 0 1 = cc in omega arith);
-      one = one_if (eqb k q);
-      fits = λ l. subst (λ (j : ℕ). (queue_at t j).count < depth c) (sym (eqb-true k q (only_if (eqb k q) l))) full;
+      leaving = λ e. cc;
+      one = grind arith;
+      fits = λ l. let e : eqb k q ≡ true = grind arith in rw (eqb-true k q e) full;
     }
 
     pub intact_inject : InLimits c t.cycle x → Intact c (moved c (injection_moves t q x) t.cycle t)
     unfolding injection_moves
-    intact_inject o = intact_moved (injection_moves t q x) t.cycle (omega arith) can_inject (λ k h. all_if (eqb k q) o)
+    intact_inject o = intact_moved (injection_moves t q x) t.cycle (omega arith) can_inject (λ k h. cond_both (eqb k q) _ [] (AllByRecursion (InLimits c t.cycle)) (λ _. (o, tt)) (λ _. tt))

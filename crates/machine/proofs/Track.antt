@@ -1,9 +1,9 @@
 -- The queues on the way from a source to a destination, one after another.
-use Rattle.std.proofs.Common.{◌≡◌, ℕ, zero, suc, ◌+◌, ◌<◌, ◌≤◌, Bool, true, false, cond, eqb, List, [], ◌∷◌, ◌++◌, map, drop, sym, refl, ap, ◌∙◌, subst, ap₂, ⊎_elim, arith}
+use Rattle.std.proofs.Common.{◌≡◌, ℕ, zero, suc, ◌+◌, ◌<◌, ◌≤◌, Bool, true, false, eqb, List, [], ◌∷◌, ◌++◌, map, sym, refl, ap, ◌∙◌, subst, ap₂, ⊎_elim, arith}
 use Rattle.std.specs.List.{AllByRecursion}
 use Rattle.std.proofs.lemmas.List.{append_assoc, append-nil}
 use Rattle.std.proofs.ByRecursion.{All-drop, All-append}
-use Rattle.std.proofs.lemmas.Bool.{and_parts, eqb-true, cases_eq, cond-true}
+use Rattle.std.proofs.lemmas.Bool.{cond_both, and_parts, eqb-true, cond-true}
 use Rattle.machine.specs.Machine.{Machine, routers, towards, beyond, opposite, inside}
 use Rattle.machine.specs.Packets.{Packet, View}
 use Rattle.machine.specs.Cycle.{after, leaves, joins, sends, ready_at, grants, winner, stays}
@@ -138,11 +138,8 @@ module _ {P : Type 0} (c : Machine) (laws : Lawful c) where
 
     stays_on_way : (r i : ℕ) → AllByRecursion (OnWay c r i) (stays c d v r i)
     unfolding stays
-    stays_on_way r i = go (leaves c d v r i)
-      where
-        go : (b : Bool) → AllByRecursion (OnWay c r i) (cond b (drop 1 (v.queue r i)) (v.queue r i))
-        go true = All-drop _ 1 _ (good r i)
-        go false = good r i
+    stays_on_way r i =
+        cond_both (leaves c d v r i) _ _ (AllByRecursion (OnWay c r i)) (λ _. All-drop _ 1 _ (good r i)) (λ _. good r i)
 
     pub after_queue : (r i : ℕ) → inside c r i ≡ true → (after c d v).queue r i ≡ stays c d v r i ++ joins c d v r i
     unfolding after stays
@@ -150,11 +147,9 @@ module _ {P : Type 0} (c : Machine) (laws : Lawful c) where
 
     pub on_way_after : AllOnWay c (after c d v)
     unfolding after stays
-    on_way_after r i = go (inside c r i) refl
-      where
-        go : (b : Bool) → inside c r i ≡ b → AllByRecursion (OnWay c r i) ((after c d v).queue r i)
-        go true h = rw (after_queue r i h) (All-append _ _ _ (stays_on_way r i) (joins_fit r i (inside_parts c r i h).0))
-        go false h = rw h tt
+    on_way_after r i =
+        cond_both (inside c r i) _ [] (AllByRecursion (OnWay c r i))
+        (λ h. All-append _ _ _ (stays_on_way r i) (joins_fit r i (inside_parts c r i h).0)) (λ _. tt)
 
 -- the payloads of one source and destination on the way up to place k, the nearest to the destination first
 unfoldable pub underway : {P : Type 0} → Machine → ℕ → ℕ → View P → ℕ → List P
@@ -182,12 +177,14 @@ module _ {P : Type 0} (c : Machine) (laws : Lawful c) (d : ℕ) (v : View P) (go
 
   split : (r i : ℕ) → inside c r i ≡ true → flow s e (v.queue r i) ++ flow s e (joins c d v r i)
       ≡ flow s e (goes c d v r i) ++ flow s e ((after c d v).queue r i)
-  split r i h =
-      ap (λ (l : List (Packet P)). flow s e l ++ flow s e (joins c d v r i)) (sym (goes_stays c d v r i))
-      ∙ ap (λ (l : List P). l ++ flow s e (joins c d v r i)) (flow_append s e (goes c d v r i) (stays c d v r i))
-      ∙ append_assoc (flow s e (goes c d v r i)) (flow s e (stays c d v r i)) (flow s e (joins c d v r i))
-      ∙ ap (λ (l : List P). flow s e (goes c d v r i) ++ l) (sym (flow_append s e (stays c d v r i) (joins c d v r i))
-      ∙ ap (flow s e) (sym (after_queue c laws d v good r i h)))
+  split r i h = grind (
+    arith,
+    append_assoc,
+    goes_stays c d v r i,
+    after_queue c laws d v good r i h,
+    flow_append s e (goes c d v r i) (stays c d v r i),
+    flow_append s e (stays c d v r i) (joins c d v r i),
+  )
 
   on_out : (k : ℕ) → k ≤ distance c s e → flow s e (goes c d v (track c s e k).0 (track c s e k).1)
       ≡ flow s e (sends c d v (track c s e k).0 (towards c (track c s e k).0 e))
@@ -203,30 +200,22 @@ module _ {P : Type 0} (c : Machine) (laws : Lawful c) (d : ℕ) (v : View P) (go
   underway_after : (k : ℕ) → k ≤ distance c s e → underway c s e v k
       ≡ flow s e (goes c d v (track c s e k).0 (track c s e k).1) ++ underway c s e (after c d v) k
   unfolding underway track flow
-  underway_after zero h = sym (append-nil (flow s e (v.queue s 4))) ∙ ap
-      (λ (l : List (Packet P)). flow s e (v.queue s 4) ++ flow s e l) (sym (joins_none c d v s 4 (beyond_own c s)))
-      ∙ split s 4 (inside_from c s 4 hs (omega arith))
+  underway_after zero h =
+      grind (arith, append-nil, joins_none c d v s 4 (beyond_own c s), split s 4 (inside_from c s 4 hs (omega arith)))
   underway_after (suc k) h =
       let o = on_track c laws s e hs he (suc k) h in
-      let Q : List P = flow s e (v.queue (track c s e (suc k)).0 (track c s e (suc k)).1) in
-      let J : List P = flow s e (joins c d v (track c s e (suc k)).0 (track c s e (suc k)).1) in
-      let R : List P = underway c s e (after c d v) k in
-      let ih : underway c s e v k ≡ J ++ R = underway_after k (omega arith)
-      ∙ ap (λ (l : List P). l ++ R) (sym (on_joins k (omega arith))) in
-      ap (λ (l : List P). Q ++ l) ih ∙ sym (append_assoc Q J R)
-      ∙ ap (λ (l : List P). l ++ R) (split _ _ (inside_from c _ _ o.router o.side))
-      ∙ append_assoc (flow s e (goes c d v (track c s e (suc k)).0 (track c s e (suc k)).1))
-      (flow s e ((after c d v).queue (track c s e (suc k)).0 (track c s e (suc k)).1)) R
+      let ih = underway_after k (omega arith) in
+      let on = on_joins k (omega arith) in
+      let parts = split _ _ (inside_from c _ _ o.router o.side) in
+      grind (arith, append_assoc, ih, on, parts)
 
   -- the end of the way
   track_end : (track c s e (distance c s e)).0 ≡ e
   track_end =
-      let r : ℕ = (track c s e (distance c s e)).0 in
       let o = on_track c laws s e hs he (distance c s e) (omega arith) in
-      ⊎_elim (λ (q : r ≡ e). q) (λ (q : r ≡ e → ⊥). absurd (omega (arith, o.left, (laws.nearer r e o.router he q).2))) (cases_eq r e)
+      grind (arith, o.left, laws.nearer (track c s e (distance c s e)).0 e o.router he)
 
   pub underway_step : underway c s e v (distance c s e) ≡ flow s e (sends c d v e 4) ++ underway c s e (after c d v) (distance c s e)
-  underway_step = underway_after (distance c s e) (omega arith)
-      ∙ ap (λ (l : List P). l ++ underway c s e (after c d v) (distance c s e))
-      (on_out (distance c s e) (omega arith) ∙ ap (λ (r : ℕ). flow s e (sends c d v r (towards c r e))) track_end
-      ∙ ap (λ (p : ℕ). flow s e (sends c d v e p)) (laws.arrived e he))
+  underway_step =
+      let k : ℕ = distance c s e in
+      grind (arith, underway_after k (omega arith), on_out k (omega arith), track_end, laws.arrived e he)

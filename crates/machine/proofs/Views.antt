@@ -7,11 +7,11 @@ use Rattle.machine.specs.Moves.{Moves, moved, cycle_moves, domain_of, side_of, r
 use Rattle.machine.specs.Packets.{Packet, View}
 use Rattle.machine.specs.Tables.{Tables, packets, view}
 use Rattle.machine.proofs.Moved.{Exact, Can, packets_moved, word_moved}
-use Rattle.machine.proofs.QueueNumbers.{inside_parts, queue_number_lt, domain_queue_number, side_queue_number, router_queue_number}
+use Rattle.machine.proofs.QueueNumbers.{inside_parts, number_inside, domain_queue_number, side_queue_number, router_queue_number}
 
-pub same_view : {P : Type 0} (u v : View P) → u.cycle ≡ v.cycle → ((r i : ℕ) → u.queue r i ≡ v.queue r i)
-    → ((r p : ℕ) → u.word r p ≡ v.word r p) → u ≡ v
-same_view u v e f g = λ i. record { cycle = e i; queue = λ r s. f r s i; word = λ r p. g r p i }
+pub same_view : {P : Type 0} (u v : View P) → u.cycle ≡ v.cycle
+    → ((r i : ℕ) → (u.queue r i ≡ v.queue r i) × (u.word r i ≡ v.word r i)) → u ≡ v
+same_view u v e f = λ i. record { cycle = e i; queue = λ r s. (f r s).0 i; word = λ r p. (f r p).1 i }
 
 -- a view at a router and side of the mesh, and outside
 module _ {P : Type 0} (c : Machine) (t : Tables P) (d r i : ℕ) where
@@ -35,7 +35,7 @@ module _ {P : Type 0} (c : Machine) (t : Tables P) (d r i : ℕ) where
 module _ {P : Type 0} (c : Machine) (some : 0 < depth c) (t : Tables P) (exact : Exact c t) (s : Moves P) (cycle : ℕ)
     (can : (q : ℕ) → q < queues c → Can c s t q) (d : ℕ) (hd : d < domains c) (r i : ℕ) (e : inside c r i ≡ true) where
   number_lt : queue_number c r i d < queues c
-  number_lt = let p = inside_parts c r i e in queue_number_lt c r i d p.0 p.1 hd
+  number_lt = number_inside c r i d e hd
 
   pub queue_moved : (view c (moved c s cycle t) d).queue r i
       ≡ cond (s.leaving (queue_number c r i d)) (drop 1 ((view c t d).queue r i)) ((view c t d).queue r i)
@@ -63,23 +63,21 @@ module _ {P : Type 0} (c : Machine) (some : 0 < depth c) (t : Tables P) (exact :
   ran : Tables P
   ran = moved c (cycle_moves c t) (t.cycle + 1) t
 
-  ran_queue : (r i : ℕ) (b : Bool) → inside c r i ≡ b → (view c ran d).queue r i ≡ (after c d (view c t d)).queue r i
+  ran_side : (r i : ℕ) (b : Bool) → inside c r i ≡ b
+      → ((view c ran d).queue r i ≡ (after c d (view c t d)).queue r i) × ((view c ran d).word r i ≡ (after c d (view c t d)).word r i)
   unfolding ran after stays cycle_moves
-  ran_queue r i true e =
-      let v : List (Packet P) = (view c t d).queue r i in
-      queue_moved c some t exact (cycle_moves c t) (t.cycle + 1) can d hd r i e
-      ∙ (ap₂ (λ (o : Bool) (n : List (Packet P)). cond o (drop 1 v) v ++ n)
-      (at_number (λ (x y z : ℕ). leaves c x (view c t x) y z) r i e) (at_number (λ (x y z : ℕ). joins c x (view c t x) y z) r i e)
-      ∙ sym (cond-true _ _ _ e))
-  ran_queue r i false e = queue_out c ran d r i e ∙ sym (cond-false _ _ _ e)
-
-  ran_word : (r i : ℕ) (b : Bool) → inside c r i ≡ b → (view c ran d).word r i ≡ (after c d (view c t d)).word r i
-  unfolding ran after cycle_moves
-  ran_word r i true e =
-      words_moved c some t exact (cycle_moves c t) (t.cycle + 1) can d hd r i e
-      ∙ (at_number (λ (x y z : ℕ). next_word c x (view c t x) y z) r i e ∙ sym (cond-true _ _ _ e))
-  ran_word r i false e = word_out c ran d r i e ∙ sym (cond-false _ _ _ e)
+  ran_side r i true e =
+      let v : List (Packet P) = (view c t d).queue r i in (
+        queue_moved c some t exact (cycle_moves c t) (t.cycle + 1) can d hd r i e
+            ∙ (ap₂ (λ (o : Bool) (n : List (Packet P)). cond o (drop 1 v) v ++ n)
+            (at_number (λ (x y z : ℕ). leaves c x (view c t x) y z) r i e)
+            (at_number (λ (x y z : ℕ). joins c x (view c t x) y z) r i e)
+            ∙ sym (cond-true _ _ _ e)),
+        words_moved c some t exact (cycle_moves c t) (t.cycle + 1) can d hd r i e
+            ∙ (at_number (λ (x y z : ℕ). next_word c x (view c t x) y z) r i e ∙ sym (cond-true _ _ _ e)),
+      )
+  ran_side r i false e = (queue_out c ran d r i e ∙ sym (cond-false _ _ _ e), word_out c ran d r i e ∙ sym (cond-false _ _ _ e))
 
   pub cycle_seen : view c (moved c (cycle_moves c t) (t.cycle + 1) t) d ≡ after c d (view c t d)
   unfolding ran after moved view
-  cycle_seen = same_view _ _ refl (λ r i. ran_queue r i (inside c r i) refl) (λ r p. ran_word r p (inside c r p) refl)
+  cycle_seen = same_view _ _ refl (λ r i. ran_side r i (inside c r i) refl)

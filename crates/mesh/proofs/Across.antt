@@ -1,16 +1,15 @@
 -- Links between ports: the port across from the port across from k is k.
-use Rattle.std.proofs.Common.{◌≡◌, ℕ, zero, suc, ◌+◌, ◌*◌, ◌/◌, ◌%◌, ◌<◌, ◌≤◌, Bool, true, false, cond, Some, None, Option, sym, refl, ap, ◌∙◌, arith}
+use Rattle.std.proofs.Common.{◌≡◌, ℕ, zero, suc, ◌+◌, ◌*◌, ◌/◌, ◌%◌, ◌<◌, ◌≤◌, Bool, true, false, cond, ltb, List, get_or, IfSome, Some, None, Option, sym, refl, ap, ◌∙◌, arith}
 use lib.Arith.{digits_div, digits_mod}
 use Rattle.std.specs.Option.{option_to_list}
-use Rattle.std.proofs.lemmas.Bool.{lt-ltb}
 use Rattle.schedule.specs.declared.plan.Plan.{Plan}
 use Rattle.schedule.specs.Mesh.{neighbour_of}
-use Rattle.schedule.specs.Plans.{beside}
 use Rattle.machine.specs.Machine.{Machine, machine, beyond, opposite, routers, width}
 use Rattle.machine.proofs.Links.{beyond_back, some_of_list}
-use Rattle.mesh.specs.Heads.{ports}
+use Rattle.machine.specs.declared.tables.Queue.{Queue}
+use Rattle.mesh.specs.Heads.{no_queue, ports}
 use Rattle.mesh.specs.Heads as heads
-use Rattle.mesh.specs.Ports.{across, across_to}
+use Rattle.mesh.specs.Ports.{across, across_to, has_room}
 use Rattle.mesh.proofs.Index.{router_in}
 
 -- a machine of the plan: its links are the plan's, whatever its rules are
@@ -59,12 +58,23 @@ opposite_high (suc (suc zero)) h = absurd (omega arith)
 opposite_high (suc (suc (suc zero))) h = absurd (omega arith)
 opposite_high (suc (suc (suc (suc side)))) h = refl
 
--- the router that a plan names beyond port k
-pub beside_some : (plan : Plan) (k n : ℕ) → k < ports plan → Some n ≡ beside plan (k / 5) (k % 5)
-    → (Some n ≡ neighbour_of plan.sizes.width plan.sizes.height (k / 5) (k % 5)) × (n < heads.routers plan) × (opposite (k % 5) < 4)
-beside_some plan k n h e =
-    let r = router_in plan k h in
-    let inside = lt-ltb _ _ r in
-    let f : Some n ≡ neighbour_of plan.sizes.width plan.sizes.height (k / 5) (k % 5) = rw inside at e in
-    let b = neighbour_back plan (k / 5) (k % 5) n r (sym f) in
-    (f, b.0, b.3)
+-- what lies across is in the mesh
+pub across_inside : (plan : Plan) (k : ℕ) → k < ports plan → (o : Option ℕ) → o ≡ across plan k → IfSome o (λ j. j < ports plan)
+unfolding across
+across_inside plan k h None e = tt
+across_inside plan k h (Some j) e =
+    let s = across_some (k % 5) (neighbour_of plan.sizes.width plan.sizes.height (k / 5) (k % 5)) j (sym e) in
+    let b = neighbour_back plan (k / 5) (k % 5) s.0 (router_in plan k h) s.1 in
+    omega (arith, s.2, b.0, b.3)
+
+-- what lies across, by what lies beside
+pub across_by : (p : ℕ) (o r : Option ℕ) → (o ≡ None → r ≡ None) → ((n : ℕ) → o ≡ Some n → r ≡ Some (n * 5 + opposite p)) → r ≡ across_to p o
+across_by p None r none some = none refl
+across_by p (Some n) r none some = some n refl
+
+-- whether there is room, by the queue that a port feeds
+pub room_by : (plan : Plan) (queues : List Queue) (d : ℕ) (o : Option ℕ) (r : Bool) → (o ≡ None → r ≡ false)
+    → ((j : ℕ) → o ≡ Some j → r ≡ ltb (get_or queues (j * plan.sizes.domains + d) no_queue).count plan.sizes.depth)
+    → r ≡ has_room plan queues d o
+room_by plan queues d None r none some = none refl
+room_by plan queues d (Some j) r none some = some j refl

@@ -1,5 +1,5 @@
 -- The tables that the moves of a cycle leave are those that the machine's cycle leaves.
-use Rattle.std.proofs.Common.{◌≡◌, ℕ, ◌+◌, ◌-◌, ◌*◌, ◌/◌, ◌%◌, ◌<◌, ◌≤◌, Bool, true, false, cond, ◌⊎◌, List, [], ◌∷◌, length, get_or, Some, None, Option, sym, refl, ap, ◌∙◌, ap₂, inl, inr, ⊎_elim, arith}
+use Rattle.std.proofs.Common.{◌≡◌, ℕ, ◌+◌, ◌-◌, ◌*◌, ◌/◌, ◌%◌, ◌<◌, ◌≤◌, Bool, true, false, cond, ◌⊎◌, List, [], ◌∷◌, length, get_or, Some, None, Option, sym, refl, ap, ◌∙◌, ap₂, inl, inr, ⊎_elim, arith, unwrap_or}
 use lib.Arith.{digits_div, digits_mod}
 use Rattle.std.proofs.lemmas.Bool.{and_parts, cases_Bool, cond_both, eqb-true}
 use Rattle.schedule.specs.declared.geometry.Position.{Position}
@@ -17,8 +17,10 @@ use Rattle.mesh.specs.After.{arriving, delivered_after, delivery_after, landing,
 use Rattle.mesh.specs.After.{place_after, place_by, queue_after, word_after}
 use Rattle.mesh.specs.Heads.{Outset, outset, queue_count}
 use Rattle.mesh.specs.Heads as heads
-use Rattle.mesh.specs.Ports.{idle, moves}
+use Rattle.mesh.specs.Ports.{move_at, no_move, passes_at}
 use Rattle.mesh.specs.Ports as ports_of
+use Rattle.mesh.proofs.Clear.{made}
+use Rattle.mesh.proofs.Cut.{none_by, some_by}
 use Rattle.mesh.proofs.Edited.{edit_like, edit_same}
 use Rattle.mesh.proofs.Granted.{Lent, view_word}
 use Rattle.mesh.proofs.Index.{place_queue_in, port_in, queue_port_in}
@@ -34,8 +36,8 @@ module _ {P : Type 0} (plan : Plan) (choose : ℕ → ℕ → ℕ × ℕ) (route
   abbrev v : Outset
   v = outset plan route t.cycle t.queues t.places
 
-  abbrev ms : List Move
-  ms = moves v choose t.words
+  abbrev ms : List (Option Move)
+  ms = made v choose t.words
 
   abbrev D : ℕ
   D = plan.sizes.domains
@@ -146,7 +148,7 @@ module _ {P : Type 0} (plan : Plan) (choose : ℕ → ℕ → ℕ × ℕ) (route
       ⊎_elim
       (λ (yes : passing ms k d ≡ true).
       let g = sym e ∙ yes in
-      rw (yes, g) (ap (λ (x : Move). x.next) (granted_move plan choose route t lent k d hk yes)
+      rw (yes, g) (ap (λ (x : Option Move). (unwrap_or x no_move).next) (granted_move plan choose route t lent k d hk yes)
       ∙ sym (ap (λ (c : ℕ × ℕ). c.1) (choice_is plan choose route t lent k d hk hd))))
       (λ (no : passing ms k d ≡ false).
       let g = sym e ∙ no in
@@ -159,14 +161,14 @@ module _ {P : Type 0} (plan : Plan) (choose : ℕ → ℕ → ℕ × ℕ) (route
 
   -- a packet that router r hands over, which is that of its local port's move
   record Handed (r : ℕ) : Type 0 where
-    passes : (get_or ms (r * 5 + 4) idle).passes ≡ true
-    owned : (get_or ms (r * 5 + 4) idle).owner ≡ owner m r 4 t.cycle
+    passes : get_or ms (r * 5 + 4) None ≡ Some (move_at ms (r * 5 + 4))
+    owned : (move_at ms (r * 5 + 4)).owner ≡ owner m r 4 t.cycle
     packet : Packet P
     over : moved_by.handed_over m t r ≡ packet ∷ []
-    source : packet.source ≡ (get_or ms (r * 5 + 4) idle).source
-    payload : (x : P) → get_or t.payloads (get_or ms (r * 5 + 4) idle).from x ≡ packet.payload
+    source : packet.source ≡ (move_at ms (r * 5 + 4)).source
+    payload : (x : P) → get_or t.payloads (move_at ms (r * 5 + 4)).from x ≡ packet.payload
 
-  handing : (r : ℕ) → r < heads.routers plan → (((get_or ms (r * 5 + 4) idle).passes ≡ false) × (moved_by.handed_over m t r ≡ [])) ⊎ Handed r
+  handing : (r : ℕ) → r < heads.routers plan → ((get_or ms (r * 5 + 4) None ≡ None) × (moved_by.handed_over m t r ≡ [])) ⊎ Handed r
   unfolding moved_by.handed_over owner ports_of.owner
   handing r h =
       let k = r * 5 + 4 in
@@ -180,14 +182,14 @@ module _ {P : Type 0} (plan : Plan) (choose : ℕ → ℕ → ℕ × ℕ) (route
       (λ (yes : passing ms k d ≡ true).
       let s = sent plan choose route t lent lawful k d hk hd yes in
       inr (record {
-        passes = own ∙ yes;
+        passes = some_by _ no_move (own ∙ yes);
         owned = eqb-true _ _ (and_parts _ _ yes).1;
         packet = s.packet;
         over = rw (a, b) at s.sends;
         source = s.source;
         payload = s.payload;
       }))
-      (λ (no : passing ms k d ≡ false). inl (own ∙ no, rw (a, b) at (unsent plan choose route t lent k d hk hd no)))
+      (λ (no : passing ms k d ≡ false). inl (none_by _ (own ∙ no), rw (a, b) at (unsent plan choose route t lent k d hk hd no)))
       (cases_Bool (passing ms k d))
 
   delivery_same : (r : ℕ) (x : Delivery) → r < heads.routers plan

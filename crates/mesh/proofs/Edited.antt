@@ -1,6 +1,6 @@
 -- Lists changed in place.
-use Rattle.std.proofs.Common.{◌≡◌, ℕ, zero, suc, ◌+◌, ◌<◌, ◌≤◌, List, [], ◌∷◌, length, get_or, set, sym, refl, ap, ◌∙◌, ⊎_elim, le_of_suc-le-suc, not-suc-le-zero, add-zero, zero-add, arith}
-use Rattle.std.proofs.lemmas.List.{same_lists, length-set, get_or-set_same, get_or-set_other, get_or_default}
+use Rattle.std.proofs.Common.{◌≡◌, ℕ, zero, suc, ◌+◌, ◌<◌, ◌≤◌, List, [], ◌∷◌, ◌++◌, length, take, drop, replicate, get_or, set, sym, refl, ap, ◌∙◌, ⊎_elim, le_of_suc-le-suc, not-suc-le-zero, add-zero, zero-add, arith}
+use Rattle.std.proofs.lemmas.List.{same_lists, length-set, get_or-set_same, get_or-set_other, get_or_default, length-take-le}
 use Rattle.std.proofs.lemmas.Bool.{cases_eq, cases_lt}
 use Rattle.machine.specs.Moves.{edit}
 
@@ -28,7 +28,21 @@ module _ {X : Type 0} (f : ℕ → X → X) where
   getD_past_from a (suc n) (x ∷ xs) zero d h = absurd (not-suc-le-zero h)
   getD_past_from a (suc n) (x ∷ xs) (suc k) d h = getD_past_from (a + 1) n xs k d (le_of_suc-le-suc h)
 
+-- the front of a list written with one value
+front_from : {X : Type 0} (a n : ℕ) (v : X) (xs : List X) → n ≤ length xs → replicate n v ++ drop n xs ≡ edit a n (λ _ _. v) xs
+unfolding edit
+front_from a zero v [] h = refl
+front_from a zero v (x ∷ xs) h = refl
+front_from a (suc n) v [] h = absurd (not-suc-le-zero h)
+front_from a (suc n) v (x ∷ xs) h = ap (λ ys. v ∷ ys) (front_from (a + 1) n v xs (le_of_suc-le-suc h))
+
 module _ {X : Type 0} where
+  -- what a fill of the front leaves
+  pub edit_filled : (n : ℕ) (v : X) (xs ys : List X) → n ≤ length xs → ys ≡ replicate (length (take n xs)) v
+      → ys ++ drop n xs ≡ edit 0 n (λ _ _. v) xs
+  edit_filled n v xs ys h e =
+      ap (λ zs. zs ++ drop n xs) (e ∙ ap (λ k. replicate k v) (length-take-le n xs h)) ∙ front_from 0 n v xs h
+
   pub length_edit : (n : ℕ) (f : ℕ → X → X) (xs : List X) → length (edit 0 n f xs) ≡ length xs
   length_edit n f xs = length_from f 0 n xs
 
@@ -36,7 +50,7 @@ module _ {X : Type 0} where
       → get_or (edit 0 n f xs) k d ≡ f k (get_or xs k d)
   getD_edit n f xs k d h j = getD_from f 0 n xs k d h j ∙ ap (λ i. f i (get_or xs k d)) (zero-add k)
 
-  pub getD_edit_past : (n : ℕ) (f : ℕ → X → X) (xs : List X) (k : ℕ) (d : X) → n ≤ k → get_or (edit 0 n f xs) k d ≡ get_or xs k d
+  getD_edit_past : (n : ℕ) (f : ℕ → X → X) (xs : List X) (k : ℕ) (d : X) → n ≤ k → get_or (edit 0 n f xs) k d ≡ get_or xs k d
   getD_edit_past n f xs k d h = getD_past_from f 0 n xs k d h
 
   pub edit_none : (f : ℕ → X → X) (xs : List X) → edit 0 0 f xs ≡ xs
@@ -99,11 +113,6 @@ module _ {X : Type 0} where
   edit_step f xs ys i v d h e is =
       ap (λ zs. set zs i v) e
       ∙ edit_put f xs i v d h (is ∙ ap (λ zs. f i (get_or zs i d)) e ∙ ap (f i) (getD_edit_past i f xs i d (omega arith)))
-
-  -- the same, where what stands at i is x
-  pub edit_step_read : (f : ℕ → X → X) (xs ys : List X) (i : ℕ) (v x : X) → i < length xs → ys ≡ edit 0 i f xs → x ≡ get_or ys i x → v ≡ f i x
-      → set ys i v ≡ edit 0 (i + 1) f xs
-  edit_step_read f xs ys i v x h e read is = edit_step f xs ys i v x h e (is ∙ ap (f i) read)
 
   -- a loop's turn that writes one element, wherever it stands, and leaves the others as they are
   pub edit_at : (n : ℕ) (f g : ℕ → X → X) (xs ys : List X) (i : ℕ) (v d : X) → i < n → i < length xs → ys ≡ edit 0 n f xs →

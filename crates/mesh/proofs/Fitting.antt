@@ -1,18 +1,20 @@
 -- What tables that pass their checks are: long enough, with queue records that fit their places.
-use Rattle.std.proofs.Common.{◌≡◌, ℕ, ◌+◌, ◌*◌, ◌<◌, ◌≤◌, true, [], ◌∷◌, length, get_or, None, Ok, sym, ◌∙◌, arith}
+use Rattle.std.proofs.Common.{◌≡◌, ℕ, ◌+◌, ◌*◌, ◌<◌, ◌≤◌, Bool, true, [], ◌∷◌, get_or, None, Ok, sym, ◌∙◌, arith}
 use Rattle.std.proofs.lemmas.Bool.{and_parts, leb-true, ltb-true}
 use Rattle.schedule.specs.declared.geometry.Position.{Position}
 use Rattle.schedule.specs.declared.plan.Plan.{Plan}
 use Rattle.schedule.specs.declared.refusal.Refusal.TheVariants.{TableTooShort, UnsoundTable, OutsideMesh, NoSuchDomain, QueueFull}
-use Rattle.schedule.specs.Verdict.{earliest}
+use Rattle.schedule.specs.Verdict.{answered, earliest}
 use Rattle.machine.specs.Calls.{Lengths, answer, check, injection_refusal, lengths, long_enough, own_queue}
 use Rattle.machine.specs.Machine.{machine, depth, domains, queue_number, queues, routers}
 use Rattle.machine.specs.Tables.{Tables, queue_at, sound}
 use Rattle.mesh.specs.Answers.{table_checks}
-use Rattle.mesh.specs.Heads.{Fit, no_queue, queue_count}
+use Rattle.mesh.specs.Heads.{no_queue, queue_count}
+use Rattle.mesh.specs.Needed.{WithAnyRules}
 use Rattle.mesh.specs.Scan as scan
+use Rattle.mesh.proofs.Granted.{Lent}
 use Rattle.mesh.proofs.Index.{port_in, queue_in}
-use Rattle.mesh.proofs.Refused.{admits, first_passes}
+use Rattle.mesh.proofs.Refused.{admits, first_passes, passed}
 use Rattle.mesh.proofs.Scan.{below_at}
 use Rattle.mesh.proofs.Soundness.{sound_same}
 
@@ -30,12 +32,6 @@ pub record Long (plan : Plan) (l : Lengths) : Type 0 where
   pub payloads_in : queue_count plan * plan.sizes.depth ≤ l.payloads
   pub words_in : queue_count plan ≤ l.words
 
--- and sound
-pub record Fitting {P : Type 0} (plan : Plan) (t : Tables P) : Type 0 where
-  pub fit : Fit plan t.queues t.places
-  pub payloads_in : queue_count plan * plan.sizes.depth ≤ length t.payloads
-  pub words_in : queue_count plan ≤ length t.words
-
 module _ (plan : Plan) (choose : ℕ → ℕ → ℕ × ℕ) (route : Position → Position → ℕ) where
   pub long : (l : Lengths) → long_enough (machine plan choose route) l ≡ true → Long plan l
   unfolding long_enough queues routers domains depth
@@ -51,7 +47,7 @@ module _ (plan : Plan) (choose : ℕ → ℕ → ℕ × ℕ) (route : Position �
       }
 
   module _ {P : Type 0} (t : Tables P) where
-    pub fitting : long_enough (machine plan choose route) (lengths t 0 0) ≡ true → sound (machine plan choose route) t ≡ true → Fitting plan t
+    pub fitting : long_enough (machine plan choose route) (lengths t 0 0) ≡ true → sound (machine plan choose route) t ≡ true → Lent plan t
     unfolding lengths scan.sound scan.sound_queue
     fitting e s =
         let l = long (lengths t 0 0) e in
@@ -68,7 +64,7 @@ module _ (plan : Plan) (choose : ℕ → ℕ → ℕ × ℕ) (route : Position �
           words_in = l.words_in;
         }
 
-    pub tables_fit : earliest (table_checks (machine plan choose route) t) ≡ None → Fitting plan t
+    pub tables_fit : earliest (table_checks (machine plan choose route) t) ≡ None → Lent plan t
     tables_fit e =
         let p = first_passes (long_enough (machine plan choose route) (lengths t 0 0)) TableTooShort (check (sound (machine plan choose route) t) UnsoundTable ∷ []) e in
         fitting p.0 (first_passes (sound (machine plan choose route) t) UnsoundTable [] p.1).0
@@ -77,7 +73,7 @@ module _ (plan : Plan) (choose : ℕ → ℕ → ℕ × ℕ) (route : Position �
     pub admits_to : (router domain destination q : ℕ)
         → Ok q ≡ answer (injection_refusal (machine plan choose route) (sound (machine plan choose route) t) (lengths t 0 0) router domain destination
         (queue_at t (own_queue (machine plan choose route) router domain)).count) (own_queue (machine plan choose route) router domain)
-        → Fitting plan t × (q < queue_count plan) × ((get_or t.queues q no_queue).count < plan.sizes.depth)
+        → Lent plan t × (q < queue_count plan) × ((get_or t.queues q no_queue).count < plan.sizes.depth)
     unfolding injection_refusal own_queue queue_number routers domains depth queue_at
     admits_to router domain destination q e =
         let a = admits _ _ q e in
@@ -92,3 +88,9 @@ module _ (plan : Plan) (choose : ℕ → ℕ → ℕ × ℕ) (route : Position �
           queue_in plan (router * 5 + 4) domain side (ltb-true _ _ d.0),
           ltb-true _ _ f.0,
         )
+
+-- what a call knows once its first check, of the tables' lengths, has passed
+pub long_checked : (plan : Plan) (l : Lengths) (passes : Bool) → WithAnyRules plan (λ m. passes ≡ long_enough m l)
+    → Ok tt ≡ answered (check passes TableTooShort) → Long plan l
+long_checked plan l passes is e =
+    long plan some_choice some_route l (sym (is some_choice some_route) ∙ passed passes TableTooShort e)

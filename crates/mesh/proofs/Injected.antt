@@ -16,7 +16,7 @@ use Rattle.mesh.specs.Answers.{one_more}
 use Rattle.mesh.specs.Heads.{no_place, no_queue, queue_count}
 use Rattle.mesh.specs.Orderly.{end_place}
 use Rattle.mesh.proofs.Edited.{edit_at, edit_is, edit_nothing}
-use Rattle.mesh.proofs.Fitting.{Fitting}
+use Rattle.mesh.proofs.Granted.{Lent}
 use Rattle.mesh.proofs.Index.{place_in}
 
 -- one write is an edit that keeps every other entry
@@ -25,7 +25,7 @@ written : {X : Type 0} (n : ℕ) (g : ℕ → X → X) (xs : List X) (i : ℕ) (
 written n g xs i v d low long same is =
     edit_at n (λ _ x. x) g xs xs i v d low (omega arith) (edit_nothing n (λ _ x. x) xs (λ k x h. refl)) (λ k x h ne. same k x ne) is
 
-module _ {P : Type 0} (plan : Plan) (choose : ℕ → ℕ → ℕ × ℕ) (route : Position → Position → ℕ) (t : Tables P) (fitting : Fitting plan t)
+module _ {P : Type 0} (plan : Plan) (choose : ℕ → ℕ → ℕ × ℕ) (route : Position → Position → ℕ) (t : Tables P) (fitting : Lent plan t)
     (q : ℕ) (inside : q < queue_count plan) (x : Packet P) where
   abbrev joining : ℕ → List (Packet P)
   joining k = cond (eqb k q) (x ∷ []) []
@@ -74,7 +74,7 @@ module _ {P : Type 0} (plan : Plan) (choose : ℕ → ℕ → ℕ × ℕ) (route
         let r = mod-mul-add q b last low in
         rw (d, r, eq-eqb q q refl, eq-eqb last last refl) (sym (lands y))
 
-    pub landed : (xs : List X) (d : X) → queue_count plan * b ≤ length xs
+    landed : (xs : List X) (d : X) → queue_count plan * b ≤ length xs
         → set xs (end_place plan t.queues q) v ≡ edit 0 (queue_count plan * b) landing xs
     landed xs d long = written (queue_count plan * b) landing xs (end_place plan t.queues q) v d (place_in plan q last inside low) long other (here _)
 

@@ -1,6 +1,5 @@
 mod Across
 mod Answered
-mod Called
 mod Cases
 mod Chosen
 mod Clear

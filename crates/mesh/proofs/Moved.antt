@@ -1,5 +1,5 @@
 -- What leaves and joins each queue by the moves is what leaves and joins it on the machine.
-use Rattle.std.proofs.Common.{◌≡◌, ℕ, zero, suc, ◌+◌, ◌*◌, ◌/◌, ◌%◌, ◌<◌, ◌≤◌, true, false, ◌&&◌, eqb, ltb, ◌⊎◌, List, [], ◌∷◌, ◌++◌, map, get_or, Some, None, Option, sym, refl, ap, ◌∙◌, subst, inl, inr, ⊎_elim, arith}
+use Rattle.std.proofs.Common.{◌≡◌, ℕ, zero, suc, ◌+◌, ◌*◌, ◌/◌, ◌%◌, ◌<◌, ◌≤◌, true, false, ◌&&◌, eqb, ltb, ◌⊎◌, List, [], ◌∷◌, ◌++◌, map, get_or, Some, None, Option, sym, refl, ap, ◌∙◌, subst, inl, inr, ⊎_elim, arith, unwrap_or}
 use lib.Arith.{digits_div, digits_mod}
 use Rattle.std.specs.List.{flat_map}
 use Rattle.std.specs.Option.{option_to_list}
@@ -17,9 +17,10 @@ use Rattle.mesh.specs.After.{arriving, arriving_by, leaving, passing}
 use Rattle.mesh.specs.Heads.{Outset, outset, asks, head_side, no_place, ports, queue_count}
 use Rattle.mesh.specs.Heads as heads
 use Rattle.mesh.specs.Orderly as orders
-use Rattle.mesh.specs.Ports.{across, across_to, idle, moves}
+use Rattle.mesh.specs.Ports.{across, across_to, move_at, no_move}
 use Rattle.mesh.proofs.Across.{neighbour_back}
 use Rattle.mesh.proofs.Cases.{bool_same}
+use Rattle.mesh.proofs.Clear.{made}
 use Rattle.mesh.proofs.Cut.{taken}
 use Rattle.mesh.proofs.Cut as cut
 use Rattle.mesh.proofs.Granted.{Lent, view_queue}
@@ -35,8 +36,8 @@ module _ {P : Type 0} (plan : Plan) (choose : ℕ → ℕ → ℕ × ℕ) (route
   abbrev v : Outset
   v = outset plan route t.cycle t.queues t.places
 
-  abbrev ms : List Move
-  ms = moves v choose t.words
+  abbrev ms : List (Option Move)
+  ms = made v choose t.words
 
   abbrev D : ℕ
   D = plan.sizes.domains
@@ -59,11 +60,11 @@ module _ {P : Type 0} (plan : Plan) (choose : ℕ → ℕ → ℕ × ℕ) (route
       let roomy = (and_parts asked free (and_parts own (asked && free) g).1).1 in
       ⊎_elim (λ (l : p < 5). l) (λ (l : 5 ≤ p). absurd (true≢false (sym roomy ∙ no_room d r p l))) (cases_lt p 5)
 
-  winner_is : (k d : ℕ) → k < ports plan → d < D → passing ms k d ≡ true → winner m (view m t d) (k / 5) (k % 5) ≡ (get_or ms k idle).winner
+  winner_is : (k d : ℕ) → k < ports plan → d < D → passing ms k d ≡ true → winner m (view m t d) (k / 5) (k % 5) ≡ (move_at ms k).winner
   unfolding winner
   winner_is k d h hd e =
       ap (λ (c : ℕ × ℕ). c.0) (choice_is plan choose route t lent k d h hd)
-      ∙ sym (ap (λ (x : Move). x.winner) (granted_move plan choose route t lent k d h e))
+      ∙ sym (ap (λ (x : Option Move). (unwrap_or x no_move).winner) (granted_move plan choose route t lent k d h e))
 
   module _ (q : ℕ) (h : q < queue_count plan) where
     -- the domain, the router and the side of queue q
@@ -127,12 +128,12 @@ module _ {P : Type 0} (plan : Plan) (choose : ℕ → ℕ → ℕ × ℕ) (route
         let from : orders.source plan ms j ≡ q = k.1.1 in
         let p = passed_by plan choose route t lent lawful j k.1.0 in
         let go = p.1 in
-        let own : (get_or ms j idle).owner ≡ d =
-        sym (ap (λ n. n % D) (sym from) ∙ digits_mod (j / 5 * 5 + (get_or ms j idle).winner) go.owns) in
-        let side : q / D ≡ j / 5 * 5 + (get_or ms j idle).winner =
-        ap (λ n. n / D) (sym from) ∙ digits_div (j / 5 * 5 + (get_or ms j idle).winner) go.owns in
+        let own : (move_at ms j).owner ≡ d =
+        sym (ap (λ n. n % D) (sym from) ∙ digits_mod (j / 5 * 5 + (move_at ms j).winner) go.owns) in
+        let side : q / D ≡ j / 5 * 5 + (move_at ms j).winner =
+        ap (λ n. n / D) (sym from) ∙ digits_div (j / 5 * 5 + (move_at ms j).winner) go.owns in
         let router : r ≡ j / 5 = ap (λ n. n / 5) side ∙ digits_div (j / 5) go.won in
-        let won : (get_or ms j idle).winner ≡ i = sym (ap (λ n. n % 5) side ∙ digits_mod (j / 5) go.won) in
+        let won : (move_at ms j).winner ≡ i = sym (ap (λ n. n % 5) side ∙ digits_mod (j / 5) go.won) in
         let A : ℕ → Type 0 = λ n. asks v (j / 5) n (j % 5) ≡ true in
         let asked = and_parts _ _ (subst A from go.asked) in
         let some : 0 < (queue_at t q).count = ltb-true _ _ asked.0 in
@@ -157,8 +158,8 @@ module _ {P : Type 0} (plan : Plan) (choose : ℕ → ℕ → ℕ × ℕ) (route
         let here : grants m d (view m t d) (k / 5) (k % 5) ≡ true = rw (a, b) g.0 in
         let yes : passing ms k d ≡ true = passing_grants plan choose route t lent k d h' low_domain ∙ here in
         let y = and_parts _ _ yes in
-        let own : (get_or ms k idle).owner ≡ d = eqb-true _ _ y.1 in
-        let won : (get_or ms k idle).winner ≡ i = sym (winner_is k d h' low_domain yes) ∙ rw (a, b) (eqb-true _ _ g.1) in
+        let own : (move_at ms k).owner ≡ d = eqb-true _ _ y.1 in
+        let won : (move_at ms k).winner ≡ i = sym (winner_is k d h' low_domain yes) ∙ rw (a, b) (eqb-true _ _ g.1) in
         cut.leaves plan ms k q y.0 (rw own low_domain) (rw won low_side) (rw (a, own, won) number_is)
 
     pub leaving_is : leaving plan ms q ≡ leaves m d (view m t d) r i
@@ -170,10 +171,10 @@ module _ {P : Type 0} (plan : Plan) (choose : ℕ → ℕ → ℕ × ℕ) (route
       pub is : arriving plan ms q ≡ Some from
       pub packet : Packet P
       pub joins : joins m d (view m t d) r i ≡ packet ∷ []
-      pub destination : packet.destination ≡ (get_or ms from idle).destination
-      pub source : packet.source ≡ (get_or ms from idle).source
+      pub destination : packet.destination ≡ (move_at ms from).destination
+      pub source : packet.source ≡ (move_at ms from).source
       pub ready : packet.ready ≡ t.cycle + plan.sizes.hop
-      pub payload : (x : P) → get_or t.payloads (get_or ms from idle).from x ≡ packet.payload
+      pub payload : (x : P) → get_or t.payloads (move_at ms from).from x ≡ packet.payload
 
     abbrev Idle : Type 0
     Idle = (arriving plan ms q ≡ None) × (joins m d (view m t d) r i ≡ [])

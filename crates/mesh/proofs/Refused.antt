@@ -24,6 +24,11 @@ unfolding check
 passed true refusal e = refl
 passed false refusal e = absurd (apart (sym e))
 
+pub failed : (passes : Bool) (refusal why : Refusal) → Err why ≡ answered (check passes refusal) → passes ≡ false
+unfolding check
+failed true refusal why e = absurd (apart e)
+failed false refusal why e = refl
+
 -- one check, of a test and of the definition that it decides
 pub check_stops : (passes test : Bool) (is : passes ≡ test) (refusal : Refusal) (rest : List (Option Refusal)) (why : Refusal)
     → Err why ≡ answered (check passes refusal) → earliest (check test refusal ∷ rest) ≡ Some why
@@ -55,6 +60,10 @@ first_passes false refusal rest e = absurd (let z : ◌≡◌ {A = ℕ} 0 1 = cc
 pub none_refuses : (v : Option Refusal) → Ok tt ≡ answered v → v ≡ None
 none_refuses None e = refl
 none_refuses (Some why) e = absurd (apart (sym e))
+
+pub some_refuses : (v : Option Refusal) (why : Refusal) → Err why ≡ answered v → v ≡ Some why
+some_refuses None why e = absurd (apart e)
+some_refuses (Some other) why e = cc
 
 pub admits : (v : Option Refusal) (n k : ℕ) → Ok k ≡ answer v n → (v ≡ None) × (k ≡ n)
 unfolding answer

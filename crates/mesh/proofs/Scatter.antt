@@ -1,7 +1,8 @@
 -- Tables into which the moves of the ports below n have been made, and what one more move does.
-use Rattle.std.proofs.Common.{◌≡◌, ℕ, ◌+◌, ◌-◌, ◌*◌, ◌/◌, ◌%◌, ◌<◌, ◌≤◌, Bool, true, false, cond, eqb, List, [], length, get_or, take, set, Some, None, Option, sym, refl, ap, ◌∙◌, subst, ⊎_elim, arith}
+use Rattle.std.proofs.Common.{◌≡◌, ℕ, ◌+◌, ◌-◌, ◌*◌, ◌/◌, ◌%◌, ◌<◌, ◌≤◌, Bool, true, false, cond, eqb, List, [], length, get_or, take, set, Some, None, Option, sym, refl, ap, ◌∙◌, subst, ⊎_elim, arith, is_some, unwrap_or}
 use native.Mathlib.Nat.{sub-zero, mod-add-mod}
 use lib.Arith.{digits_div, digits_mod}
+use Rattle.std.proofs.Math.Seq.{take-length}
 use Rattle.std.proofs.lemmas.List.{get_or_default}
 use Rattle.std.proofs.lemmas.Nat.{div-add-mod', mod_below}
 use Rattle.std.proofs.lemmas.Bool.{cases_Bool, true≢false, and_from, eqb-true, eq-eqb, cond_both}
@@ -11,12 +12,12 @@ use Rattle.machine.specs.declared.tables.Place.{Place}
 use Rattle.mesh.specs.declared.moves.Move.{Move}
 use Rattle.mesh.specs.Heads.{no_queue, no_place, ports, queue_count}
 use Rattle.machine.specs.Moves.{edit}
-use Rattle.mesh.specs.Ports.{idle, across}
+use Rattle.mesh.specs.Ports.{no_move, move_at, passes_at, across}
 use Rattle.mesh.specs.After.{one, passing, arriving, leaving, landing, word_after, place_by, place_after, payload_by}
 use Rattle.mesh.specs.After.{payload_after, queue_after}
 use Rattle.mesh.specs.Orderly.{Orderly, source, end_place}
 use Rattle.mesh.proofs.Cut.{taken, leaves, cut_other, cut_here, cut_passes, passing_same, arriving_same, arriving_here}
-use Rattle.mesh.proofs.Cut.{arriving_not, arriving_less, arriving_none, leaving_none, cut_all, arriving_all, leaving_all}
+use Rattle.mesh.proofs.Cut.{arriving_not, arriving_less, arriving_none, leaving_none}
 use Rattle.mesh.proofs.Cases.{bool_same}
 use Rattle.mesh.proofs.Edited.{edit_at, edit_like, getD_edit}
 use Rattle.mesh.proofs.Across.{across_back}
@@ -33,18 +34,18 @@ at_end_place : (plan : Plan) (queues : List Queue) (s q : ℕ) → at_end plan q
 at_end_place plan queues s q t e = sym (div-add-mod' s plan.sizes.depth)
     ∙ ap (λ n. s / plan.sizes.depth * plan.sizes.depth + n) (eqb-true _ _ t) ∙ ap (end_place plan queues) e
 
-unfoldable pub word_part : Plan → List Move → ℕ → ℕ → ℕ → ℕ
+unfoldable pub word_part : Plan → List (Option Move) → ℕ → ℕ → ℕ → ℕ
 word_part plan ms n q x =
-    cond (passing (take n ms) (q / plan.sizes.domains) (q % plan.sizes.domains)) (get_or ms (q / plan.sizes.domains) idle).next x
+    cond (passing (take n ms) (q / plan.sizes.domains) (q % plan.sizes.domains)) (move_at ms (q / plan.sizes.domains)).next x
 
-unfoldable pub place_part : Plan → ℕ → List Queue → List Move → ℕ → ℕ → Place → Place
+unfoldable pub place_part : Plan → ℕ → List Queue → List (Option Move) → ℕ → ℕ → Place → Place
 place_part plan t queues ms n s x = place_by plan t ms (landing plan queues (take n ms) s) x
 
-unfoldable pub payload_part : {P : Type 0} → Plan → List Queue → List Move → List P → ℕ → ℕ → P → P
+unfoldable pub payload_part : {P : Type 0} → Plan → List Queue → List (Option Move) → List P → ℕ → ℕ → P → P
 payload_part plan queues ms old n s x = payload_by ms old (landing plan queues (take n ms) s) x
 
 -- the moves of the ports below n have left their queues, those of the ports below m have joined theirs
-unfoldable pub queue_part : Plan → List Move → ℕ → ℕ → ℕ → Queue → Queue
+unfoldable pub queue_part : Plan → List (Option Move) → ℕ → ℕ → ℕ → Queue → Queue
 queue_part plan ms n m q x = record {
   first = cond (leaving plan (take n ms) q) ((x.first + 1) % plan.sizes.depth) x.first;
   count = (x.count + one (arriving plan (take m ms) q)) - cond (leaving plan (take n ms) q) 1 0;
@@ -66,30 +67,29 @@ both : (b : Bool) → b ≡ true → b ≡ false → ⊥
 both b e f = true≢false (sym e ∙ f)
 
 -- the moves of all ports
-module _ (plan : Plan) (queues : List Queue) (ms : List Move) (past : (j : ℕ) → ports plan ≤ j → get_or ms j idle ≡ idle) where
-  landing_all : (s : ℕ) → landing plan queues (take (ports plan) ms) s ≡ landing plan queues ms s
-  unfolding landing
-  landing_all s = rw (arriving_all plan ms past (s / plan.sizes.depth)) refl
+module _ (plan : Plan) (queues : List Queue) (ms : List (Option Move)) (exact : length ms ≡ ports plan) where
+  whole : take (ports plan) ms ≡ ms
+  whole = ap (λ n. take n ms) (sym exact) ∙ take-length ms
 
   pub word_all : (q x : ℕ) → word_part plan ms (ports plan) q x ≡ word_after plan ms q x
   unfolding word_part word_after
-  word_all q x = rw (cut_all plan ms past (q / plan.sizes.domains)) refl
+  word_all q x = rw whole refl
 
   pub place_all : (t s : ℕ) (x : Place) → place_part plan t queues ms (ports plan) s x ≡ place_after plan t queues ms s x
   unfolding place_part place_after
-  place_all t s x = rw (landing_all s) refl
+  place_all t s x = rw whole refl
 
   pub payload_all : {P : Type 0} (old : List P) (s : ℕ) (x : P)
       → payload_part plan queues ms old (ports plan) s x ≡ payload_after plan queues ms old s x
   unfolding payload_part payload_after
-  payload_all old s x = rw (landing_all s) refl
+  payload_all old s x = rw whole refl
 
   pub queue_all : (q : ℕ) (x : Queue) → queue_part plan ms (ports plan) (ports plan) q x ≡ queue_after plan ms q x
   unfolding queue_part queue_after
-  queue_all q x = rw (arriving_all plan ms past q, leaving_all plan ms past q) refl
+  queue_all q x = rw whole refl
 
 -- no move
-module _ (plan : Plan) (queues : List Queue) (ms : List Move) where
+module _ (plan : Plan) (queues : List Queue) (ms : List (Option Move)) where
   landing_none : (s : ℕ) → landing plan queues [] s ≡ None
   unfolding landing
   landing_none s =
@@ -124,20 +124,32 @@ module _ (plan : Plan) (queues : List Queue) (ms : List Move) where
       (λ (t : at_end plan queues s ≡ false). rw t refl)
       (cases_Bool (at_end plan queues s))
 
+-- a move that is made, as the table has it
+pub made : (ms : List (Option Move)) (k : ℕ) (m : Move) → get_or ms k None ≡ Some m → (passes_at ms k ≡ true) × (m ≡ move_at ms k)
+made ms k m e = (ap (λ (o : Option Move). is_some o) e, sym (ap (λ (o : Option Move). unwrap_or o no_move) e))
+
+-- the queues that it takes from and passes into
+module _ (plan : Plan) (queues : List Queue) (ms : List (Option Move)) (o : Orderly plan queues ms) (k : ℕ) (m : Move) (e : get_or ms k None ≡ Some m) where
+  pub takes_from : k < ports plan → (k / 5 * 5 + m.winner) * plan.sizes.domains + m.owner < queue_count plan
+  takes_from low = rw (made ms k m e).1 (side_queue_in plan k (move_at ms k).winner (move_at ms k).owner low (o.wins k) (o.owns k))
+
+  pub passes_to : (j : ℕ) → j < ports plan → j * plan.sizes.domains + m.owner < queue_count plan
+  passes_to j inside = rw (made ms k m e).1 (queue_in plan j (move_at ms k).owner inside (o.owns k))
+
 -- one move
-module _ (plan : Plan) (queues : List Queue) (ms : List Move) (o : Orderly plan queues ms) (k : ℕ) (low : k < ports plan) where
+module _ (plan : Plan) (queues : List Queue) (ms : List (Option Move)) (o : Orderly plan queues ms) (k : ℕ) (low : k < ports plan) where
   abbrev D : ℕ
   D = plan.sizes.domains
 
   abbrev m : Move
-  m = get_or ms k idle
+  m = move_at ms k
 
   -- word
-  word_same : (q x : ℕ) → (q ≡ k * D + m.owner → m.passes ≡ true → ⊥) → word_part plan ms (k + 1) q x ≡ word_part plan ms k q x
+  word_same : (q x : ℕ) → (q ≡ k * D + m.owner → passes_at ms k ≡ true → ⊥) → word_part plan ms (k + 1) q x ≡ word_part plan ms k q x
   unfolding word_part
   word_same q x off = rw (passing_same ms k (q / D) (q % D) (λ e p w. off (split plan q k m.owner e w) p)) refl
 
-  word_here : (x : ℕ) → m.passes ≡ true → word_part plan ms (k + 1) (k * D + m.owner) x ≡ m.next
+  word_here : (x : ℕ) → passes_at ms k ≡ true → word_part plan ms (k + 1) (k * D + m.owner) x ≡ m.next
   unfolding word_part
   word_here x p =
       let a : (k * D + m.owner) / D ≡ k = digits_div k (o.owns k) in
@@ -147,7 +159,7 @@ module _ (plan : Plan) (queues : List Queue) (ms : List Move) (o : Orderly plan 
       rw (a, b, yes) refl
 
   module _ (old cur : List ℕ) (is : cur ≡ edit 0 (queue_count plan) (word_part plan ms k) old) where
-    pub words_put : queue_count plan ≤ length old → m.passes ≡ true
+    pub words_put : queue_count plan ≤ length old → passes_at ms k ≡ true
         → set cur (k * D + m.owner) m.next ≡ edit 0 (queue_count plan) (word_part plan ms (k + 1)) old
     words_put long p =
         let q = queue_in plan k m.owner low (o.owns k) in
@@ -155,17 +167,17 @@ module _ (plan : Plan) (queues : List Queue) (ms : List Move) (o : Orderly plan 
         (omega arith) is
         (λ q x h ne. word_same q x (λ e _. ne e)) (sym (word_here (get_or old (k * D + m.owner) 0) p))
 
-    pub words_keep : m.passes ≡ false → cur ≡ edit 0 (queue_count plan) (word_part plan ms (k + 1)) old
+    pub words_keep : passes_at ms k ≡ false → cur ≡ edit 0 (queue_count plan) (word_part plan ms (k + 1)) old
     words_keep p = is ∙ edit_like (queue_count plan) (word_part plan ms k) (word_part plan ms (k + 1)) old
-        (λ q x h. sym (word_same q x (λ _ e. both m.passes e p)))
+        (λ q x h. sym (word_same q x (λ _ e. both (passes_at ms k) e p)))
 
   -- what comes into queue q
-  fed_same : (q : ℕ) → q < queue_count plan → ((j : ℕ) → across plan k ≡ Some j → q ≡ j * D + m.owner → m.passes ≡ true → ⊥)
+  fed_same : (q : ℕ) → q < queue_count plan → ((j : ℕ) → across plan k ≡ Some j → q ≡ j * D + m.owner → passes_at ms k ≡ true → ⊥)
       → arriving plan (take (k + 1) ms) q ≡ arriving plan (take k ms) q
   fed_same q h off = arriving_same plan ms k q
       (λ a p w. off (q / D) (across_back plan (q / D) k (queue_port_in plan q h) a) (split plan q (q / D) m.owner refl w) p)
 
-  fed_here : (j : ℕ) → across plan k ≡ Some j → m.passes ≡ true → arriving plan (take (k + 1) ms) (j * D + m.owner) ≡ Some k
+  fed_here : (j : ℕ) → across plan k ≡ Some j → passes_at ms k ≡ true → arriving plan (take (k + 1) ms) (j * D + m.owner) ≡ Some k
   fed_here j a p =
       let e : (j * D + m.owner) / D ≡ j = digits_div j (o.owns k) in
       let f : (j * D + m.owner) % D ≡ m.owner = digits_mod j (o.owns k) in
@@ -178,7 +190,7 @@ module _ (plan : Plan) (queues : List Queue) (ms : List Move) (o : Orderly plan 
 
   -- what lands at place s
   landing_same : (s : ℕ) → s < queue_count plan * plan.sizes.depth
-      → ((j : ℕ) → across plan k ≡ Some j → s ≡ end_place plan queues (j * D + m.owner) → m.passes ≡ true → ⊥) →
+      → ((j : ℕ) → across plan k ≡ Some j → s ≡ end_place plan queues (j * D + m.owner) → passes_at ms k ≡ true → ⊥) →
       landing plan queues (take (k + 1) ms) s ≡ landing plan queues (take k ms) s
   unfolding landing
   landing_same s h off = ⊎_elim
@@ -188,7 +200,7 @@ module _ (plan : Plan) (queues : List Queue) (ms : List Move) (o : Orderly plan 
       (λ (t : at_end plan queues s ≡ false). rw t refl)
       (cases_Bool (at_end plan queues s))
 
-  landing_here : (j : ℕ) → across plan k ≡ Some j → m.passes ≡ true
+  landing_here : (j : ℕ) → across plan k ≡ Some j → passes_at ms k ≡ true
       → landing plan queues (take (k + 1) ms) (end_place plan queues (j * D + m.owner)) ≡ Some k
   unfolding landing
   landing_here j a p =
@@ -207,20 +219,20 @@ module _ (plan : Plan) (queues : List Queue) (ms : List Move) (o : Orderly plan 
     next_is = cur ≡ edit 0 (queue_count plan * plan.sizes.depth) (place_part plan t queues ms (k + 1)) old
 
     place_same : (s : ℕ) (x : Place) → s < queue_count plan * plan.sizes.depth
-        → ((j : ℕ) → across plan k ≡ Some j → s ≡ end_place plan queues (j * D + m.owner) → m.passes ≡ true → ⊥) →
+        → ((j : ℕ) → across plan k ≡ Some j → s ≡ end_place plan queues (j * D + m.owner) → passes_at ms k ≡ true → ⊥) →
         place_part plan t queues ms (k + 1) s x ≡ place_part plan t queues ms k s x
     unfolding place_part
     place_same s x h off = rw (landing_same s h off) refl
 
-    pub places_keep : m.passes ≡ false → next_is
+    pub places_keep : passes_at ms k ≡ false → next_is
     places_keep p = is ∙ edit_like _ _ (place_part plan t queues ms (k + 1)) old
-        (λ s x h. sym (place_same s x h (λ j a e y. both m.passes y p)))
+        (λ s x h. sym (place_same s x h (λ j a e y. both (passes_at ms k) y p)))
 
     pub places_out : across plan k ≡ None → next_is
     places_out n = is ∙ edit_like _ _ (place_part plan t queues ms (k + 1)) old
         (λ s x h. sym (place_same s x h (λ j a e y. some_none _ j a n)))
 
-    pub places_put : queue_count plan * plan.sizes.depth ≤ length old → m.passes ≡ true → (j : ℕ) → across plan k ≡ Some j
+    pub places_put : queue_count plan * plan.sizes.depth ≤ length old → passes_at ms k ≡ true → (j : ℕ) → across plan k ≡ Some j
         → j < ports plan →
         (v : Place) → v ≡ record { destination = m.destination; source = m.source; ready = t + plan.sizes.hop } →
         set cur (end_place plan queues (j * D + m.owner)) v
@@ -243,21 +255,21 @@ module _ (plan : Plan) (queues : List Queue) (ms : List Move) (o : Orderly plan 
     paid = cur ≡ edit 0 (queue_count plan * plan.sizes.depth) (payload_part plan queues ms old (k + 1)) old
 
     payload_same : (s : ℕ) (x : P) → s < queue_count plan * plan.sizes.depth
-        → ((j : ℕ) → across plan k ≡ Some j → s ≡ end_place plan queues (j * D + m.owner) → m.passes ≡ true → ⊥) →
+        → ((j : ℕ) → across plan k ≡ Some j → s ≡ end_place plan queues (j * D + m.owner) → passes_at ms k ≡ true → ⊥) →
         payload_part plan queues ms old (k + 1) s x ≡ payload_part plan queues ms old k s x
     unfolding payload_part
     payload_same s x h off = rw (landing_same s h off) refl
 
-    pub payloads_keep : m.passes ≡ false → paid
+    pub payloads_keep : passes_at ms k ≡ false → paid
     payloads_keep p = is
-        ∙ edit_like _ _ (payload_part plan queues ms old (k + 1)) old (λ s x h. sym (payload_same s x h (λ j a e y. both m.passes y p)))
+        ∙ edit_like _ _ (payload_part plan queues ms old (k + 1)) old (λ s x h. sym (payload_same s x h (λ j a e y. both (passes_at ms k) y p)))
 
     pub payloads_out : across plan k ≡ None → paid
     payloads_out n = is ∙ edit_like _ _ (payload_part plan queues ms old (k + 1)) old
         (λ s x h. sym (payload_same s x h (λ j a e y. some_none _ j a n)))
 
     -- what is read is still what stood there
-    still : queue_count plan * plan.sizes.depth ≤ length old → m.passes ≡ true → (d : P) → get_or cur m.from d ≡ get_or old m.from d
+    still : queue_count plan * plan.sizes.depth ≤ length old → passes_at ms k ≡ true → (d : P) → get_or cur m.from d ≡ get_or old m.from d
     unfolding payload_part
     still long p d =
         let h = o.froms k in
@@ -265,7 +277,7 @@ module _ (plan : Plan) (queues : List Queue) (ms : List Move) (o : Orderly plan 
         ∙ getD_edit (queue_count plan * plan.sizes.depth) (payload_part plan queues ms old k) old m.from d h (omega arith)
         ∙ ap (λ w. payload_by ms old w (get_or old m.from d)) (landing_less plan queues ms k m.from (o.clear k p))
 
-    pub payloads_put : queue_count plan * plan.sizes.depth ≤ length old → m.passes ≡ true → (j : ℕ) → across plan k ≡ Some j
+    pub payloads_put : queue_count plan * plan.sizes.depth ≤ length old → passes_at ms k ≡ true → (j : ℕ) → across plan k ≡ Some j
         → j < ports plan →
         (v : P) → v ≡ get_or cur m.from v →
         set cur (end_place plan queues (j * D + m.owner)) v
@@ -285,7 +297,7 @@ module _ (plan : Plan) (queues : List Queue) (ms : List Move) (o : Orderly plan 
         ∙ ap (λ w. payload_by ms old w (get_or old s v)) (sym (landing_here j a p)))
 
   -- who leaves queue q
-  leaving_same : (q : ℕ) → (q ≡ source plan ms k → m.passes ≡ true → ⊥) → leaving plan (take (k + 1) ms) q ≡ leaving plan (take k ms) q
+  leaving_same : (q : ℕ) → (q ≡ source plan ms k → passes_at ms k ≡ true → ⊥) → leaving plan (take (k + 1) ms) q ≡ leaving plan (take k ms) q
   leaving_same q off = bool_same _ _
       (λ e.
       let t = taken plan (take (k + 1) ms) q e in
@@ -304,12 +316,12 @@ module _ (plan : Plan) (queues : List Queue) (ms : List Move) (o : Orderly plan 
       let f = cut_other ms k j ne in
       leaves plan (take (k + 1) ms) j q (rw f t.1.0) (rw (f, c) (o.owns j)) (rw (f, c) (o.wins j)) (rw f t.1.1))
 
-  leaving_here : m.passes ≡ true → leaving plan (take (k + 1) ms) (source plan ms k) ≡ true
+  leaving_here : passes_at ms k ≡ true → leaving plan (take (k + 1) ms) (source plan ms k) ≡ true
   leaving_here p =
       let c = cut_here ms k in
       leaves plan (take (k + 1) ms) k (source plan ms k) (rw c p) (rw c (o.owns k)) (rw c (o.wins k)) (rw c refl)
 
-  leaving_not : m.passes ≡ true → leaving plan (take k ms) (source plan ms k) ≡ false
+  leaving_not : passes_at ms k ≡ true → leaving plan (take k ms) (source plan ms k) ≡ false
   leaving_not p = ⊎_elim
       (λ (e : leaving plan (take k ms) (source plan ms k) ≡ true).
       let t = taken plan (take k ms) (source plan ms k) e in
@@ -337,7 +349,7 @@ module _ (plan : Plan) (queues : List Queue) (ms : List Move) (o : Orderly plan 
   module _ (long : queue_count plan ≤ length queues) (cur : List Queue) where
     module _ (is : cur ≡ edit 0 (queue_count plan) (queue_part plan ms k k) queues) where
       -- the queue that is left, as it stands
-      pub queues_from : m.passes ≡ true →
+      pub queues_from : passes_at ms k ≡ true →
           ((get_or cur (source plan ms k) no_queue).first ≡ (get_or queues (source plan ms k) no_queue).first)
           × ((get_or cur (source plan ms k) no_queue).count
           ≡ (get_or queues (source plan ms k) no_queue).count + one (arriving plan (take k ms) (source plan ms k)))
@@ -350,12 +362,12 @@ module _ (plan : Plan) (queues : List Queue) (ms : List Move) (o : Orderly plan 
           let l = leaving_not p in
           (ap (λ (x : Queue). x.first) at ∙ rw l refl, ap (λ (x : Queue). x.count) at ∙ rw l (sub-zero _))
 
-      pub queues_keep : m.passes ≡ false → cur ≡ edit 0 (queue_count plan) (queue_part plan ms (k + 1) (k + 1)) queues
+      pub queues_keep : passes_at ms k ≡ false → cur ≡ edit 0 (queue_count plan) (queue_part plan ms (k + 1) (k + 1)) queues
       unfolding queue_part
       queues_keep p = is ∙ edit_like (queue_count plan) (queue_part plan ms k k) (queue_part plan ms (k + 1) (k + 1)) queues
-          (λ q x h. rw (fed_same q h (λ j a e y. both m.passes y p), leaving_same q (λ e y. both m.passes y p)) refl)
+          (λ q x h. rw (fed_same q h (λ j a e y. both (passes_at ms k) y p), leaving_same q (λ e y. both (passes_at ms k) y p)) refl)
 
-      pub queues_leave : m.passes ≡ true → (v : Queue) → v.first ≡ ((get_or cur (source plan ms k) no_queue).first + 1) % plan.sizes.depth
+      pub queues_leave : passes_at ms k ≡ true → (v : Queue) → v.first ≡ ((get_or cur (source plan ms k) no_queue).first + 1) % plan.sizes.depth
           → v.count ≡ (get_or cur (source plan ms k) no_queue).count - 1 →
           set cur (source plan ms k) v ≡ edit 0 (queue_count plan) (queue_part plan ms (k + 1) k) queues
       unfolding queue_part
@@ -375,7 +387,7 @@ module _ (plan : Plan) (queues : List Queue) (ms : List Move) (o : Orderly plan 
           (λ q x h. rw (fed_same q h (λ j a e y. some_none _ j a n)) refl)
 
       -- the queue that is joined, as it stands
-      pub queues_to : (j : ℕ) → across plan k ≡ Some j → j < ports plan →
+      queues_to : (j : ℕ) → across plan k ≡ Some j → j < ports plan →
           get_or cur (j * D + m.owner) no_queue ≡ queue_part plan ms (k + 1) k (j * D + m.owner) (get_or queues (j * D + m.owner) no_queue)
       queues_to j a inside =
           let q = j * D + m.owner in
@@ -390,7 +402,7 @@ module _ (plan : Plan) (queues : List Queue) (ms : List Move) (o : Orderly plan 
           let n = fed_not j a in
           rw (e, n) (omega arith)
 
-      pub queues_join : m.passes ≡ true → (j : ℕ) → across plan k ≡ Some j → j < ports plan → (v : Queue) →
+      pub queues_join : passes_at ms k ≡ true → (j : ℕ) → across plan k ≡ Some j → j < ports plan → (v : Queue) →
           v.first ≡ (get_or cur (j * D + m.owner) no_queue).first → v.count ≡ (get_or cur (j * D + m.owner) no_queue).count + 1 →
           set cur (j * D + m.owner) v ≡ edit 0 (queue_count plan) (queue_part plan ms (k + 1) (k + 1)) queues
       unfolding queue_part

@@ -1,5 +1,5 @@
 -- The moves of a cycle, port by port, are what the machine's ports send.
-use Rattle.std.proofs.Common.{◌≡◌, ℕ, ◌+◌, ◌*◌, ◌/◌, ◌%◌, ◌^◌, ◌<◌, Bool, true, false, cond, ◌&&◌, eqb, ltb, List, [], ◌∷◌, get_or, take, sym, refl, ap, ◌∙◌, subst, ap₂, ⊎_elim, arith}
+use Rattle.std.proofs.Common.{◌≡◌, ℕ, ◌+◌, ◌*◌, ◌/◌, ◌%◌, ◌^◌, ◌<◌, Bool, true, false, cond, ◌&&◌, eqb, ltb, List, [], ◌∷◌, get_or, is_some, Some, None, Option, take, sym, refl, ap, ◌∙◌, subst, ap₂, ⊎_elim, arith, unwrap_or}
 use Rattle.std.proofs.lemmas.Nat.{div-add-mod', mod_below}
 use Rattle.std.proofs.lemmas.Bool.{and_parts, cases_eq, eq-eqb, ne_eqb, eqb-true, true≢false}
 use Rattle.schedule.specs.declared.geometry.Position.{Position}
@@ -14,30 +14,30 @@ use Rattle.mesh.specs.After.{passing}
 use Rattle.mesh.specs.Heads.{Outset, outset, asking_set, no_place, ports, queue_count}
 use Rattle.mesh.specs.Orderly.{Orderly}
 use Rattle.mesh.specs.Orderly as orders
-use Rattle.mesh.specs.Ports.{idle, move_in, moves, owner, passes, room}
+use Rattle.mesh.specs.Ports.{move_at, no_move, passes_at, move_in, owner, passes, room}
 use Rattle.mesh.proofs.Chosen.{move_cases}
-use Rattle.mesh.proofs.Clear.{Passed, move_at, orderly, passed, some_of_queue}
+use Rattle.mesh.proofs.Clear.{Passed, made, made_at, orderly, passed, some_of_queue}
 use Rattle.mesh.proofs.Granted.{Lent, asking_is, grants_is, number_in, view_queue, view_word}
 use Rattle.mesh.proofs.Index.{router_in}
 use Rattle.mesh.proofs.Packets.{first_index, index_in, one_at, packet, packets_some}
 
 -- a move by its owner w, seen by domain d
-by_owner : (b c : Bool) (w d : ℕ) (x y : Move) → x.passes ≡ true → x.owner ≡ w → y.passes ≡ false → (w ≡ d → b ≡ c)
-    → ((cond b x y).passes && eqb (cond b x y).owner d) ≡ (eqb w d && c)
-by_owner true c w d x y xp xo yp e = ⊎_elim
-    (λ (s : w ≡ d). let t = eq-eqb w d s in let u = e s in rw (xp, xo, t) u)
-    (λ (n : w ≡ d → ⊥). let t = ne_eqb w d n in rw (xp, xo, t) refl)
+by_owner : (b c : Bool) (w d : ℕ) (x : Move) → x.owner ≡ w → (w ≡ d → b ≡ c)
+    → (is_some (cond b (Some x) None) && eqb (unwrap_or (cond b (Some x) None) no_move).owner d) ≡ (eqb w d && c)
+by_owner true c w d x xo e = ⊎_elim
+    (λ (s : w ≡ d). let t = eq-eqb w d s in let u = e s in rw (xo, t) u)
+    (λ (n : w ≡ d → ⊥). let t = ne_eqb w d n in rw (xo, t) refl)
     (cases_eq w d)
-by_owner false c w d x y xp xo yp e = ⊎_elim
-    (λ (s : w ≡ d). let t = eq-eqb w d s in let u = e s in rw (yp, t) u)
-    (λ (n : w ≡ d → ⊥). let t = ne_eqb w d n in rw (yp, t) refl)
+by_owner false c w d x xo e = ⊎_elim
+    (λ (s : w ≡ d). let t = eq-eqb w d s in let u = e s in rw t u)
+    (λ (n : w ≡ d → ⊥). let t = ne_eqb w d n in rw t refl)
     (cases_eq w d)
 
 -- a move seen by its owner
-by_itself : (b : Bool) (w : ℕ) (x y : Move) → x.passes ≡ true → x.owner ≡ w → y.passes ≡ false
-    → (cond b x y).passes ≡ ((cond b x y).passes && eqb (cond b x y).owner w)
-by_itself true w x y xp xo yp = let t = eq-eqb w w refl in rw (xp, xo, t) refl
-by_itself false w x y xp xo yp = rw yp refl
+by_itself : (b : Bool) (w : ℕ) (x : Move) → x.owner ≡ w
+    → is_some (cond b (Some x) None) ≡ (is_some (cond b (Some x) None) && eqb (unwrap_or (cond b (Some x) None) no_move).owner w)
+by_itself true w x xo = let t = eq-eqb w w refl in rw (xo, t) refl
+by_itself false w x xo = refl
 
 -- what an arbiter keeps to, as the lemmas on moves want it
 pub Lawful : (ℕ → ℕ → ℕ × ℕ) → Type 0
@@ -54,8 +54,8 @@ module _ {P : Type 0} (plan : Plan) (choose : ℕ → ℕ → ℕ × ℕ) (route
   abbrev v : Outset
   v = outset plan route t.cycle t.queues t.places
 
-  abbrev ms : List Move
-  ms = moves v choose t.words
+  abbrev ms : List (Option Move)
+  ms = made v choose t.words
 
   passing_is : (k d : ℕ) → k < ports plan
       → passing ms k d ≡ (eqb (owner plan t.cycle k) d && (ltb 0 (asking_set v (k / 5) (k % 5) d) && room plan t.queues k d))
@@ -64,20 +64,19 @@ module _ {P : Type 0} (plan : Plan) (choose : ℕ → ℕ → ℕ × ℕ) (route
       let w = owner plan t.cycle k in
       let free : ℕ → Bool = λ e. ltb 0 (asking_set v (k / 5) (k % 5) e) && room plan t.queues k e in
       let picked = choose (get_or t.words (k * plan.sizes.domains + w) 0) (asking_set v (k / 5) (k % 5) w) in
-      ap (λ (x : Move). x.passes && eqb x.owner d) (move_at v choose t.words k h)
+      ap (λ (x : Option Move). is_some x && eqb (unwrap_or x no_move).owner d) (made_at v choose t.words k h)
       ∙ by_owner (free w) (free d) w d
-      (passes plan t.queues t.places w picked.0 picked.1 ((k / 5 * 5 + picked.0) * plan.sizes.domains + w)) idle refl refl
-      refl (ap free)
+      (passes plan t.queues t.places w picked.0 picked.1 ((k / 5 * 5 + picked.0) * plan.sizes.domains + w)) refl (ap free)
 
-  pub own_passing : (k : ℕ) → k < ports plan → (get_or ms k idle).passes ≡ passing ms k (owner plan t.cycle k)
+  pub own_passing : (k : ℕ) → k < ports plan → passes_at ms k ≡ passing ms k (owner plan t.cycle k)
   unfolding move_in
   own_passing k h =
       let w = owner plan t.cycle k in
       let b : Bool = ltb 0 (asking_set v (k / 5) (k % 5) w) && room plan t.queues k w in
       let choice = choose (get_or t.words (k * plan.sizes.domains + w) 0) (asking_set v (k / 5) (k % 5) w) in
       let x = passes plan t.queues t.places w choice.0 choice.1 ((k / 5 * 5 + choice.0) * plan.sizes.domains + w) in
-      let at : get_or ms k idle ≡ cond b x idle = move_at v choose t.words k h in
-      ap (λ (y : Move). y.passes) at ∙ by_itself b w x idle refl refl refl ∙ ap (λ (y : Move). y.passes && eqb y.owner w) (sym at)
+      let at : get_or ms k None ≡ cond b (Some x) None = made_at v choose t.words k h in
+      ap (λ (y : Option Move). is_some y) at ∙ by_itself b w x refl ∙ ap (λ (y : Option Move). is_some y && eqb (unwrap_or y no_move).owner w) (sym at)
 
   pub passing_grants : (k d : ℕ) → k < ports plan → d < plan.sizes.domains → passing ms k d ≡ grants m d (view m t d) (k / 5) (k % 5)
   passing_grants k d h hd =
@@ -93,16 +92,16 @@ module _ {P : Type 0} (plan : Plan) (choose : ℕ → ℕ → ℕ × ℕ) (route
       ((k / 5 * 5 + (picked k d).0) * plan.sizes.domains + d)
 
   -- a port that passes a packet for domain d
-  pub granted_move : (k d : ℕ) → k < ports plan → passing ms k d ≡ true → get_or ms k idle ≡ granting k d
+  pub granted_move : (k d : ℕ) → k < ports plan → passing ms k d ≡ true → get_or ms k None ≡ Some (granting k d)
   granted_move k d h e =
       let p = and_parts _ _ e in
       let w = owner plan t.cycle k in
-      let at : get_or ms k idle ≡ move_in v choose t.words k w = move_at v choose t.words k h in
-      ⊎_elim (λ no. absurd (true≢false (sym p.0 ∙ ap (λ (x : Move). x.passes) (at ∙ sym no))))
+      let at : get_or ms k None ≡ move_in v choose t.words k w = made_at v choose t.words k h in
+      ⊎_elim (λ no. absurd (true≢false (sym p.0 ∙ ap (λ (x : Option Move). is_some x) (at ∙ sym no))))
       (λ yes.
-      let whole : get_or ms k idle ≡ granting k w = at ∙ sym yes.2 in
-      let own : w ≡ d = sym (ap (λ (x : Move). x.owner) whole) ∙ eqb-true _ _ p.1 in
-      whole ∙ ap (granting k) own)
+      let whole : get_or ms k None ≡ Some (granting k w) = at ∙ sym yes.2 in
+      let own : w ≡ d = sym (ap (λ (x : Option Move). (unwrap_or x no_move).owner) whole) ∙ eqb-true _ _ p.1 in
+      whole ∙ ap (λ e. Some (granting k e)) own)
       (move_cases v choose t.words k w)
 
   -- the arbiter of a domain's view answers the same
@@ -119,9 +118,9 @@ module _ {P : Type 0} (plan : Plan) (choose : ℕ → ℕ → ℕ × ℕ) (route
   pub record Sent (k d : ℕ) : Type 0 where
     pub packet : Packet P
     pub sends : sends m d (view m t d) (k / 5) (k % 5) ≡ packet ∷ []
-    pub destination : packet.destination ≡ (get_or ms k idle).destination
-    pub source : packet.source ≡ (get_or ms k idle).source
-    pub payload : (x : P) → get_or t.payloads (get_or ms k idle).from x ≡ packet.payload
+    pub destination : packet.destination ≡ (move_at ms k).destination
+    pub source : packet.source ≡ (move_at ms k).source
+    pub payload : (x : P) → get_or t.payloads (move_at ms k).from x ≡ packet.payload
 
   pub unsent : (k d : ℕ) → k < ports plan → d < plan.sizes.domains → passing ms k d ≡ false → sends m d (view m t d) (k / 5) (k % 5) ≡ []
   unfolding sends
@@ -139,7 +138,7 @@ module _ {P : Type 0} (plan : Plan) (choose : ℕ → ℕ → ℕ × ℕ) (route
     pub orderly_moves : Orderly plan t.queues ms
     orderly_moves = orderly v choose t.words lent.fit within wins
 
-    pub passed_by : (k : ℕ) → (get_or ms k idle).passes ≡ true → (k < ports plan) × Passed v choose t.words lent.fit within wins k
+    pub passed_by : (k : ℕ) → passes_at ms k ≡ true → (k < ports plan) × Passed v choose t.words lent.fit within wins k
     passed_by k e = passed v choose t.words lent.fit within wins k e
 
     pub sent : (k d : ℕ) → k < ports plan → d < plan.sizes.domains → passing ms k d ≡ true → Sent k d
@@ -148,7 +147,7 @@ module _ {P : Type 0} (plan : Plan) (choose : ℕ → ℕ → ℕ × ℕ) (route
         let g = sym (passing_grants k d h hd) ∙ e in
         let go = (passed_by k (and_parts _ _ e).0).1 in
         let whole = granted_move k d h e in
-        let won : (picked k d).0 < 5 = rw (ap (λ (x : Move). x.winner) whole) at go.won in
+        let won : (picked k d).0 < 5 = rw (ap (λ (x : Option Move). (unwrap_or x no_move).winner) whole) at go.won in
         let r = router_in plan k h in
         let q = (k / 5 * 5 + (picked k d).0) * plan.sizes.domains + d in
         let here : orders.source plan ms k ≡ q = rw whole refl in
@@ -162,8 +161,8 @@ module _ {P : Type 0} (plan : Plan) (choose : ℕ → ℕ → ℕ × ℕ) (route
           packet = x;
           sends = rw g (ap (λ i. take 1 ((view m t d).queue (k / 5) i)) (ap (λ (c : ℕ × ℕ). c.0) (choice_is k d h hd))
               ∙ ap (take 1) (view_queue plan choose route t lent d (k / 5) (picked k d).0 r won ∙ s.1));
-          destination = ap (λ i. (get_or t.places i no_place).destination) first ∙ sym (ap (λ (y : Move). y.destination) whole);
-          source = ap (λ i. (get_or t.places i no_place).source) first ∙ sym (ap (λ (y : Move). y.source) whole);
-          payload = λ y. ap (λ i. get_or t.payloads i y) (ap (λ (z : Move). z.from) whole ∙ sym first)
+          destination = ap (λ i. (get_or t.places i no_place).destination) first ∙ sym (ap (λ (y : Option Move). (unwrap_or y no_move).destination) whole);
+          source = ap (λ i. (get_or t.places i no_place).source) first ∙ sym (ap (λ (y : Option Move). (unwrap_or y no_move).source) whole);
+          payload = λ y. ap (λ i. get_or t.payloads i y) (ap (λ (z : Option Move). (unwrap_or z no_move).from) whole ∙ sym first)
               ∙ (one_at t.payloads _ (index_in plan choose route t lent.payloads_in q 0 hq)).2 y;
         }

@@ -1,5 +1,5 @@
 -- The first packets of the queues as a cycle begins, and what they ask for.
-use Rattle.std.specs.Prelude.{ℕ, zero, suc, ◌+◌, ◌*◌, ◌^◌, ◌<◌, ◌≤◌, Bool, cond, ◌&&◌, ◌||◌, List, length, ◌==◌, nat_le, nat_lt, slice_index, slice_index_or}
+use Rattle.std.specs.Prelude.{ℕ, zero, suc, ◌+◌, ◌*◌, ◌^◌, ◌<◌, ◌≤◌, Bool, cond, ◌&&◌, List, length, Some, None, Option, ◌==◌, nat_le, nat_lt, slice_index_or}
 use Rattle.schedule.specs.declared.geometry.Position.{Position}
 use Rattle.schedule.specs.declared.plan.Plan.{Plan}
 use Rattle.schedule.specs.Mesh.{position_of}
@@ -52,9 +52,9 @@ unfoldable pub asks : Outset → ℕ → ℕ → ℕ → Bool
 asks v r q p =
     nat_lt 0 (slice_index_or v.queues q no_queue).count && (nat_le (head v q).ready v.cycle && head_side v r q == p)
 
--- the port that queue q of router r asks for, 5 if it asks for none
-abbrev pub wanted : Outset → ℕ → ℕ → ℕ
-wanted v r q = cond (nat_lt 0 (slice_index_or v.queues q no_queue).count && nat_le (head v q).ready v.cycle) (head_side v r q) 5
+-- the port that queue q of router r asks for, if it asks for one
+abbrev pub wanted : Outset → ℕ → ℕ → Option ℕ
+wanted v r q = cond (nat_lt 0 (slice_index_or v.queues q no_queue).count && nat_le (head v q).ready v.cycle) (Some (head_side v r q)) None
 
 -- the numbers below n that pass a test, as a set of bits
 unfoldable pub mask : (ℕ → Bool) → ℕ → ℕ
@@ -67,12 +67,6 @@ asker v r p d i = asks v r ((r * 5 + i) * v.plan.sizes.domains + d) p
 
 abbrev pub asking_set : Outset → ℕ → ℕ → ℕ → ℕ
 asking_set v r p d = mask (asker v r p d) 5
-
--- whether one of five ports, told their owners, belongs to a domain
-abbrev pub owned_by : List ℕ → ℕ → Bool
-owned_by owners d =
-    (slice_index owners 0 == d)
-    || (slice_index owners 1 == d || (slice_index owners 2 == d || (slice_index owners 3 == d || slice_index owners 4 == d)))
 
 -- tables that are long enough, whose queue records fit their places
 pub record Fit (plan : Plan) (queues : List Queue) (places : List Place) : Type 0 where

@@ -5,3 +5,5 @@ pub mod Ports
 pub mod Scan
 pub mod Needed
 pub mod Answers
+pub mod Shared
+pub mod Asked

@@ -1,5 +1,6 @@
 -- What each port does in a cycle.
-use Rattle.std.specs.Prelude.{ℕ, ◌+◌, ◌*◌, ◌/◌, ◌%◌, Bool, true, false, cond, ◌&&◌, ◌||◌, List, replicate, Some, None, Option, ◌==◌, nat_lt, slice_index, slice_index_or}
+use Rattle.std.specs.Prelude.{ℕ, ◌+◌, ◌*◌, ◌/◌, ◌%◌, Bool, false, cond, ◌&&◌, ◌||◌, List, replicate, Some, None, Option, is_some, ◌==◌, nat_lt, slice_index, slice_index_or}
+use Rattle.std.specs.Option.{unwrap_or}
 use Rattle.schedule.specs.declared.plan.Plan.{Plan}
 use Rattle.schedule.specs.Mesh.{neighbour_of}
 use Rattle.schedule.specs.Plans.{timetable_of}
@@ -31,16 +32,21 @@ has_room plan queues d (Some k) = nat_lt (slice_index_or queues (k * plan.sizes.
 unfoldable pub room : Plan → List Queue → ℕ → ℕ → Bool
 room plan queues k d = k % 5 == 4 || has_room plan queues d (across plan k)
 
--- a port that passes nothing
-abbrev pub idle : Move
-idle = record { passes = false; owner = 0; winner = 0; next = 0; from = 0; destination = 0; source = 0 }
+-- whether port k of a table passes a packet, and its move; all of it is read as 0 where there is none
+abbrev pub passes_at : List (Option Move) → ℕ → Bool
+passes_at moves k = is_some (slice_index_or moves k None)
+
+abbrev pub no_move : Move
+no_move = record { owner = 0; winner = 0; next = 0; from = 0; destination = 0; source = 0 }
+
+abbrev pub move_at : List (Option Move) → ℕ → Move
+move_at moves k = unwrap_or (slice_index_or moves k None) no_move
 
 -- a port passes the first packet of queue q
 abbrev pub passes : Plan → List Queue → List Place → ℕ → ℕ → ℕ → ℕ → Move
 passes plan queues places d winner next q =
     let at = q * plan.sizes.depth + (slice_index_or queues q no_queue).first in
     record {
-      passes = true;
       owner = d;
       winner = winner;
       next = next;
@@ -50,21 +56,21 @@ passes plan queues places d winner next q =
     }
 
 -- port k in domain d, told the word and the sides that ask
-abbrev pub move_by : Plan → List Queue → List Place → ℕ → ℕ → Bool → ℕ → (ℕ × ℕ) → Move
+abbrev pub move_by : Plan → List Queue → List Place → ℕ → ℕ → Bool → ℕ → (ℕ × ℕ) → Option Move
 move_by plan queues places k d free set picked =
-    cond (nat_lt 0 set && free) (passes plan queues places d picked.0 picked.1 ((k / 5 * 5 + picked.0) * plan.sizes.domains + d)) idle
+    cond (nat_lt 0 set && free) (Some (passes plan queues places d picked.0 picked.1 ((k / 5 * 5 + picked.0) * plan.sizes.domains + d))) None
 
-unfoldable pub move_in : Outset → (ℕ → ℕ → (ℕ × ℕ)) → List ℕ → ℕ → ℕ → Move
+unfoldable pub move_in : Outset → (ℕ → ℕ → (ℕ × ℕ)) → List ℕ → ℕ → ℕ → Option Move
 move_in v choose words k d =
     move_by v.plan v.queues v.places k d (room v.plan v.queues k d) (asking_set v (k / 5) (k % 5) d)
     (choose (slice_index words (k * v.plan.sizes.domains + d)) (asking_set v (k / 5) (k % 5) d))
 
-abbrev pub move_of : Outset → (ℕ → ℕ → (ℕ × ℕ)) → List ℕ → ℕ → Move
+abbrev pub move_of : Outset → (ℕ → ℕ → (ℕ × ℕ)) → List ℕ → ℕ → Option Move
 move_of v choose words k = move_in v choose words k (owner v.plan v.cycle k)
 
--- what each port does; a table of moves has a line for each of 320 ports, idle past those of the plan
-unfoldable pub chosen : Outset → (ℕ → ℕ → (ℕ × ℕ)) → List ℕ → ℕ → Move → Move
+-- what each port does; a table of moves has a line for each of 320 ports, none past those of the plan
+unfoldable pub chosen : Outset → (ℕ → ℕ → (ℕ × ℕ)) → List ℕ → ℕ → Option Move → Option Move
 chosen v choose words k old = move_of v choose words k
 
-unfoldable pub moves : Outset → (ℕ → ℕ → (ℕ × ℕ)) → List ℕ → List Move
-moves v choose words = edit 0 (ports v.plan) (chosen v choose words) (replicate 320 idle)
+unfoldable pub moves : Outset → (ℕ → ℕ → (ℕ × ℕ)) → List ℕ → List (Option Move)
+moves v choose words = edit 0 (ports v.plan) (chosen v choose words) (replicate 320 None)

@@ -20,6 +20,14 @@ sound_held plan cycle places q first j =
 abbrev pub held : ℕ → Queue → ℕ → Bool
 held b x s = nat_lt (cond (nat_lt s x.first) (s + b) s - x.first) x.count
 
+-- the same packet, where the b places of its queue are a list of their own
+unfoldable pub sound_in : Plan → ℕ → ℕ → List Place → ℕ → ℕ → Bool
+sound_in plan cycle b ring first j = sound_place plan cycle (slice_index_or ring ((first + j) % b) no_place)
+
+-- a queue with b places, told its record and those places
+unfoldable pub sound_ring : Plan → ℕ → ℕ → Queue → List Place → Bool
+sound_ring plan cycle b x ring = nat_lt x.first b && (nat_le x.count b && all_below (sound_in plan cycle b ring x.first) x.count)
+
 unfoldable pub sound_queue : Plan → ℕ → List Queue → List Place → ℕ → Bool
 sound_queue plan cycle queues places q =
     let x = slice_index_or queues q no_queue in

@@ -2,7 +2,7 @@
 ghost use Rattle.std.specs.Prelude.{◌≡◌, ℕ, ◌+◌, ◌-◌, ◌*◌, ◌%◌, ◌<◌, ◌≤◌, length, slice_index_or};
 ghost use Rattle.machine.specs.Moves.{edit};
 ghost use Rattle.mesh.specs.After.{word_after, queue_after, place_after, payload_after};
-ghost use Rattle.mesh.specs.Heads.{Fit, queue_count, no_queue};
+ghost use Rattle.mesh.specs.Heads.{Fit, ports, queue_count, no_queue};
 ghost use Rattle.mesh.specs.Orderly.{Orderly, end_place};
 
 use super::links::across;
@@ -18,7 +18,7 @@ fn wrapped(at: u8, depth: u8) -> u8
     if at < depth { at } else { at - depth }
 }
 
-// A queue whose first packet has left.
+// A queue whose first packet has left. It is no method, since a type has methods only in the crate that declares it.
 fn left(plan: &Plan, queue: Queue) -> Queue
     requires some { 0 < queue.count }
     requires low { queue.first < plan.now.sizes.depth }
@@ -38,12 +38,13 @@ pub(crate) fn joined(queue: Queue) -> Queue
     ensures count { result.count ≡ queue.count + 1 }
 {
     Queue {
-        first: queue.first,
         count: queue.count + 1,
+        ..queue
     }
 }
 
-// The first free place of queue `q`.
+// The first free place of queue `q`. It is asked in the midst of the moves, so its records are no struct's that says how they were.
+#[tactic(auto, using(crate::proofs::Index::place_in, crate::proofs::Index::place_count_le, std::proofs::lemmas::Nat::mod_below))]
 pub(crate) fn end_place(plan: &Plan, queues: &[Queue], q: usize) -> usize
     requires inside { q < queue_count plan.now }
     requires queues_in { queue_count plan.now ≤ length queues.now }
@@ -56,11 +57,12 @@ pub(crate) fn end_place(plan: &Plan, queues: &[Queue], q: usize) -> usize
     q * plan.sizes.depth as usize + wrapped(queue.first + queue.count, plan.sizes.depth) as usize
 }
 
-// Makes the moves of a cycle in the four tables.
+// Makes the moves of a cycle in the four tables. They are told one by one: a struct of `&mut` would owe that it still lends the same ones.
+#[tactic(auto, using(crate::proofs::Scatter::takes_from, crate::proofs::Scatter::passes_to, crate::proofs::Index::queue_count_le))]
 pub(crate) fn make_moves<P: Copy>(
     plan: &Plan,
     cycle: u32,
-    moves: &[Move; 320],
+    moves: &[Option<Move>],
     queues: &mut [Queue],
     places: &mut [Place],
     payloads: &mut [P],
@@ -69,6 +71,7 @@ pub(crate) fn make_moves<P: Copy>(
     requires fit { Fit plan.now queues.old places.old }
     requires payloads_in { queue_count plan.now * plan.now.sizes.depth ≤ length payloads.old }
     requires words_in { queue_count plan.now ≤ length words.old }
+    requires moves_in { length moves.now ≡ ports plan.now }
     requires orderly { Orderly plan.now queues.old moves.now }
     ensures queued { queues.new
         ≡ edit 0 (queue_count plan.now) (queue_after plan.now moves.now) queues.old }
@@ -82,11 +85,10 @@ pub(crate) fn make_moves<P: Copy>(
         ≡ edit 0 (queue_count plan.now) (word_after plan.now moves.now) words.old }
 {
     let domains = plan.sizes.domains as usize;
-    for k in 0..plan.routers() as usize * 5 {
-        let m = moves[k];
-        if !m.passes {
+    for (k, m) in moves.iter().enumerate() {
+        let Some(m) = m else {
             continue;
-        }
+        };
         let domain = m.owner as usize;
         words[k * domains + domain] = m.next;
         let from = (k / 5 * 5 + m.winner as usize) * domains + domain;

@@ -1,14 +1,19 @@
 // What the first packet of a queue asks for.
-ghost use Rattle.std.specs.Prelude.{◌≡◌, ℕ, ◌+◌, ◌*◌, ◌<◌, ◌≤◌, length, slice_index_or};
+ghost use Rattle.std.specs.Prelude.{◌≡◌, ℕ, ◌<◌};
+ghost use Rattle.std.specs.Option.{option_map};
 ghost use Rattle.schedule.specs.Mesh.{position_of};
-ghost use Rattle.mesh.specs.Heads.{wanted as wanted_of, no_queue, outset};
+ghost use Rattle.schedule.specs.Sides.{side_number};
+ghost use Rattle.mesh.specs.Heads.{wanted as wanted_of, queue_count};
+ghost use Rattle.mesh.specs.Shared.{outset_of};
 
-use machine::tables::{Place, Queue};
+use super::outset::Outset;
+use rules::arbiter::Arbiter;
 use rules::route::RouteRule;
 use schedule::geometry::Position;
 use schedule::plan::Plan;
+use schedule::side::Side;
 
-// Where a router stands.
+// Where a router stands. The plan's own `position` answers an Option, since it is asked of routers outside the mesh too.
 fn position(plan: &Plan, router: u8) -> Position
     ensures { result ≡ position_of plan.now.sizes.width router }
 {
@@ -18,29 +23,22 @@ fn position(plan: &Plan, router: u8) -> Position
     }
 }
 
-// The port that the first packet of queue `q` of a router asks for, 5 if none does.
-pub(crate) fn wanted<R: RouteRule>(
-    plan: &Plan,
-    rule: &R,
-    cycle: u32,
-    queues: &[Queue],
-    places: &[Place],
-    router: u8,
-    q: usize,
-) -> u8
-    requires queue_in { q < length queues.now }
-    requires place_in { q * plan.now.sizes.depth + (slice_index_or queues.now q no_queue).first < length places.now }
-    requires small { q ≤ 2560 }
-    ensures { result ≡ wanted_of
-        (outset plan.now (R.RouteRule.meaning rule.now) cycle queues.now places.now) router q }
-{
-    let queue = queues[q];
-    if queue.count == 0 {
-        return 5;
+impl<A: Arbiter, R: RouteRule> Outset<'_, A, R> {
+    // The port that the first packet of queue `q` of a router asks for, if one does.
+    #[tactic(auto, using(crate::proofs::Index::head_in))]
+    pub(crate) fn wanted(&self, router: u8, q: usize) -> Option<Side>
+        requires { q < queue_count self.now.plan.now }
+        ensures { option_map side_number result ≡ wanted_of (outset_of R.RouteRule.meaning self.now) router q }
+    {
+        let queue = self.queues[q];
+        if queue.count == 0 {
+            return None;
+        }
+        let first = self.places[q * self.plan.sizes.depth as usize + queue.first as usize];
+        if first.ready > self.cycle as u64 {
+            return None;
+        }
+        let here = position(self.plan, router);
+        Some(self.rule.side(here, position(self.plan, first.destination)))
     }
-    let first = places[q * plan.sizes.depth as usize + queue.first as usize];
-    if first.ready > cycle as u64 {
-        return 5;
-    }
-    rule.side(position(plan, router), position(plan, first.destination))
 }

@@ -1,147 +1,85 @@
 // What each port of the mesh does in a cycle, chosen from the tables as the cycle begins.
-ghost use Rattle.std.specs.Prelude.{◌≡◌, ℕ, ◌+◌, ◌*◌, ◌<◌, ◌≤◌, length, replicate, slice_index};
+ghost use Rattle.std.specs.Prelude.{◌≡◌, ℕ, ◌+◌, ◌*◌, ◌<◌, replicate, None, slice_index};
 ghost use Rattle.machine.specs.Moves.{edit};
-ghost use Rattle.mesh.specs.Heads.{Fit, routers, ports, queue_count, outset};
-ghost use Rattle.mesh.specs.Ports.{room as room_of, idle, chosen, move_by, moves as moves_of, passes};
+ghost use Rattle.mesh.specs.Heads.{routers, ports, queue_count};
+ghost use Rattle.mesh.specs.Shared.{outset_of};
+ghost use Rattle.mesh.specs.Ports.{room as room_of, chosen, move_by, moves as moves_of, passes};
 
-use super::asking::{asking_sides, router_owners};
-use super::links::has_room;
+use super::asking::Asked;
 use super::moves::Move;
-use machine::tables::{Place, Queue};
+use super::outset::Outset;
 use rules::arbiter::Arbiter;
 use rules::route::RouteRule;
-use schedule::plan::Plan;
 
-const IDLE: Move = Move {
-    passes: false,
-    owner: 0,
-    winner: 0,
-    next: 0,
-    from: 0,
-    destination: 0,
-    source: 0,
-};
+impl<A: Arbiter, R: RouteRule> Outset<'_, A, R> {
+    // A port passes the first packet of queue `q`. The winner is a number, as the arbiter tells it.
+    #[tactic(auto, using(crate::proofs::Index::head_in))]
+    fn pass(&self, q: usize, owner: u8, winner: u8, next: u32) -> Move
+        requires { q < queue_count self.now.plan.now }
+        ensures { result ≡ passes self.now.plan.now self.now.queues.now self.now.places.now owner winner next q }
+    {
+        let from = q * self.plan.sizes.depth as usize + self.queues[q].first as usize;
+        let packet = self.places[from];
+        Move {
+            owner,
+            winner,
+            next,
+            from,
+            destination: packet.destination,
+            source: packet.source,
+        }
+    }
 
-// A port passes the first packet of queue `q`.
-fn pass(
-    plan: &Plan,
-    queues: &[Queue],
-    places: &[Place],
-    q: usize,
-    owner: u8,
-    winner: u8,
-    next: u32,
-) -> Move
-    requires queue_in { q < queue_count plan.now }
-    requires fit { Fit plan.now queues.now places.now }
-    ensures { result ≡ passes plan.now queues.now places.now owner winner next q }
-{
-    let from = q * plan.sizes.depth as usize + queues[q].first as usize;
-    let packet = places[from];
-    Move {
-        passes: true,
-        owner,
-        winner,
-        next,
-        from,
-        destination: packet.destination,
-        source: packet.source,
+    // What port `k` of the mesh does, if it passes a packet.
+    fn choose_port(&self, k: usize, port: Asked) -> Option<Move>
+        requires port_in { k < ports self.now.plan.now }
+        requires domain_in { port.owner < self.now.plan.now.sizes.domains }
+        requires few { port.sides < 32 }
+        ensures { result ≡ move_by self.now.plan.now self.now.queues.now self.now.places.now k port.owner
+            (room_of self.now.plan.now self.now.queues.now k port.owner) port.sides
+            (A.Arbiter.meaning self.now.arbiter.now
+            (slice_index self.now.words.now (k * self.now.plan.now.sizes.domains + port.owner)) port.sides) }
+    {
+        if port.sides == 0 {
+            return None;
+        }
+        if !self.has_room(k, port.owner) {
+            return None;
+        }
+        let domains = self.plan.sizes.domains as usize;
+        let domain = port.owner as usize;
+        let (winner, next) = self
+            .arbiter
+            .choose(self.words[k * domains + domain], port.sides);
+        let q = (k / 5 * 5 + winner as usize) * domains + domain;
+        Some(self.pass(q, port.owner, winner, next))
     }
-}
 
-// What port `k` of the mesh does for its owner, a domain, where the sides in `set` ask for it.
-fn choose_port<A: Arbiter>(
-    plan: &Plan,
-    arbiter: &A,
-    queues: &[Queue],
-    places: &[Place],
-    words: &[u32],
-    k: usize,
-    domain: u8,
-    set: u8,
-) -> Move
-    requires port_in { k < ports plan.now }
-    requires domain_in { domain < plan.now.sizes.domains }
-    requires few { set < 32 }
-    requires fit { Fit plan.now queues.now places.now }
-    requires words_in { queue_count plan.now ≤ length words.now }
-    ensures { result ≡ move_by plan.now queues.now places.now k domain
-        (room_of plan.now queues.now k domain) set
-        (A.Arbiter.meaning arbiter.now (slice_index words.now (k * plan.now.sizes.domains + domain)) set) }
-{
-    if set == 0 {
-        return IDLE;
+    // What the ports of a router do, after those of the routers before it.
+    #[tactic(auto, using(crate::proofs::Index::port_in, crate::proofs::Index::ports_le))]
+    fn choose_router(&self, router: u8, moves: &mut [Option<Move>; 320])
+        requires router_in { router < routers self.now.plan.now }
+        requires before { moves.old ≡ edit 0 (router * 5)
+            (chosen (outset_of R.RouteRule.meaning self.now) (A.Arbiter.meaning self.now.arbiter.now) self.now.words.now)
+            (replicate 320 None) }
+        ensures { moves.new ≡ edit 0 (router * 5 + 5)
+            (chosen (outset_of R.RouteRule.meaning self.now) (A.Arbiter.meaning self.now.arbiter.now) self.now.words.now)
+            (replicate 320 None) }
+    {
+        for (p, port) in self.asking(router).iter().enumerate() {
+            let k = router as usize * 5 + p;
+            moves[k] = self.choose_port(k, *port);
+        }
     }
-    if !has_room(plan, queues, k, domain) {
-        return IDLE;
-    }
-    let domains = plan.sizes.domains as usize;
-    let (winner, next) = arbiter.choose(words[k * domains + domain as usize], set);
-    let q = (k / 5 * 5 + winner as usize) * domains + domain as usize;
-    pass(plan, queues, places, q, domain, winner, next)
-}
 
-// What the ports of a router do, after those of the routers before it.
-fn choose_router<A: Arbiter, R: RouteRule>(
-    plan: &Plan,
-    arbiter: &A,
-    rule: &R,
-    cycle: u32,
-    queues: &[Queue],
-    places: &[Place],
-    words: &[u32],
-    router: u8,
-    moves: &mut [Move; 320],
-)
-    requires router_in { router < routers plan.now }
-    requires fit { Fit plan.now queues.now places.now }
-    requires words_in { queue_count plan.now ≤ length words.now }
-    requires before { moves.old ≡ edit 0 (router * 5)
-        (chosen (outset plan.now (R.RouteRule.meaning rule.now) cycle queues.now places.now)
-        (A.Arbiter.meaning arbiter.now) words.now)
-        (replicate 320 idle) }
-    ensures { moves.new ≡ edit 0 (router * 5 + 5)
-        (chosen (outset plan.now (R.RouteRule.meaning rule.now) cycle queues.now places.now)
-        (A.Arbiter.meaning arbiter.now) words.now) (replicate 320 idle) }
-{
-    let owners = router_owners(plan, cycle, router);
-    let sets = asking_sides(plan, rule, cycle, queues, places, router, &owners);
-    for port in 0..5 {
-        let k = router as usize * 5 + port;
-        moves[k] = choose_port(
-            plan,
-            arbiter,
-            queues,
-            places,
-            words,
-            k,
-            owners[port],
-            sets[port],
-        );
+    // What each port of the mesh does in a cycle. With no heap, the table has room for the ports of the largest mesh.
+    pub(crate) fn choose_all(&self) -> [Option<Move>; 320]
+        ensures { result ≡ moves_of (outset_of R.RouteRule.meaning self.now) (A.Arbiter.meaning self.now.arbiter.now) self.now.words.now }
+    {
+        let mut moves = [None; 320];
+        for router in 0..self.plan.routers() {
+            self.choose_router(router, &mut moves);
+        }
+        moves
     }
-}
-
-// What each port of the mesh does in a cycle.
-pub(crate) fn choose_all<A: Arbiter, R: RouteRule>(
-    plan: &Plan,
-    arbiter: &A,
-    rule: &R,
-    cycle: u32,
-    queues: &[Queue],
-    places: &[Place],
-    words: &[u32],
-) -> [Move; 320]
-    requires fit { Fit plan.now queues.now places.now }
-    requires words_in { queue_count plan.now ≤ length words.now }
-    ensures { result ≡ moves_of
-        (outset plan.now (R.RouteRule.meaning rule.now) cycle queues.now places.now)
-        (A.Arbiter.meaning arbiter.now) words.now }
-{
-    let mut moves = [IDLE; 320];
-    for router in 0..plan.routers() {
-        choose_router(
-            plan, arbiter, rule, cycle, queues, places, words, router, &mut moves,
-        );
-    }
-    moves
 }

@@ -1,42 +1,33 @@
 // What the local ports hand over to the routers' own cores.
-ghost use Rattle.std.specs.Prelude.{◌≡◌, ℕ, ◌*◌, ◌<◌, ◌≤◌, length, slice_index_or};
+ghost use Rattle.std.specs.Prelude.{◌≡◌, ℕ, ◌/◌, ◌<◌, ◌≤◌, length};
 ghost use Rattle.machine.specs.Moves.{edit};
 ghost use Rattle.mesh.specs.After.{delivery_after, delivered_after};
-ghost use Rattle.mesh.specs.Heads.{routers};
-ghost use Rattle.mesh.specs.Ports.{idle};
+ghost use Rattle.mesh.specs.Ports.{move_at};
 
 use super::moves::Move;
 use machine::tables::Delivery;
-use schedule::plan::Plan;
 
-const NONE: Delivery = Delivery {
-    mark: 0,
-    domain: 0,
-    source: 0,
-};
-
-// Writes the delivery records of a cycle, and the payloads beside those with a mark.
+// Writes the delivery records of a cycle, and the payloads beside those with a mark. Each router has five ports, its own core's last.
 pub(crate) fn deliver<P: Copy>(
-    plan: &Plan,
-    moves: &[Move; 320],
+    moves: &[Option<Move>],
     payloads: &[P],
     deliveries: &mut [Delivery],
     delivered: &mut [P],
 )
-    requires deliveries_in { routers plan.now ≤ length deliveries.old }
-    requires delivered_in { routers plan.now ≤ length delivered.old }
-    requires froms { (k : ℕ) → (slice_index_or moves.now k idle).from < length payloads.now }
+    requires deliveries_in { length moves.now / 5 ≤ length deliveries.old }
+    requires delivered_in { length moves.now / 5 ≤ length delivered.old }
+    requires froms { (k : ℕ) → (move_at moves.now k).from < length payloads.now }
     ensures marked { deliveries.new
-        ≡ edit 0 (routers plan.now) (delivery_after moves.now) deliveries.old }
+        ≡ edit 0 (length moves.now / 5) (delivery_after moves.now) deliveries.old }
     ensures handed { delivered.new
-        ≡ edit 0 (routers plan.now) (delivered_after moves.now payloads.now) delivered.old }
+        ≡ edit 0 (length moves.now / 5) (delivered_after moves.now payloads.now) delivered.old }
 {
-    for router in 0..plan.routers() as usize {
-        let m = moves[router * 5 + 4];
-        if !m.passes {
-            deliveries[router] = NONE;
+    let (routers, _) = moves.as_chunks::<5>();
+    for (router, ports) in routers.iter().enumerate() {
+        let Some(m) = ports[4] else {
+            deliveries[router] = Delivery::default();
             continue;
-        }
+        };
         deliveries[router] = Delivery {
             mark: 1,
             domain: m.owner,

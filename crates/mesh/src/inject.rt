@@ -6,44 +6,41 @@ ghost use Rattle.mesh.specs.Answers.{one_more};
 ghost use Rattle.mesh.specs.Heads.{Fit, no_queue, queue_count};
 ghost use Rattle.mesh.specs.Needed.{WithAnyRules};
 ghost use Rattle.mesh.specs.Orderly.{end_place};
+ghost use Rattle.mesh.specs.Shared.{tables_of};
 
 use super::apply::{end_place, joined};
-use super::checks::{check, check_tables};
+use super::checks::check;
+use super::lent::Lent;
 use super::room::own_queue;
 use machine::tables::{Place, Queue};
 use schedule::plan::Plan;
 use schedule::refusal::Refusal;
 
-// The queue that a packet may join, or why it may not.
-fn admitted<P: Copy>(
-    plan: &Plan,
-    cycle: u32,
-    queues: &[Queue],
-    places: &[Place],
-    payloads: &[P],
-    words: &[u32],
-    router: u8,
-    domain: u8,
-    destination: u8,
-) -> Result<usize, Refusal>
-    ensures { WithAnyRules plan.now (λ m.
-        let t = tables cycle queues.now places.now payloads.now words.now in
-        let q = own_queue m router domain in
-        result ≡ answer (injection_refusal m (sound_tables m t) (lengths t 0 0) router domain destination (queue_at t q).count) q) }
-{
-    check_tables(plan, cycle, queues, places, payloads, words)?;
-    let routers = plan.routers();
-    check(
-        (router < routers) & (destination < routers),
-        Refusal::OutsideMesh,
-    )?;
-    check(domain < plan.sizes.domains, Refusal::NoSuchDomain)?;
-    let q = own_queue(plan, router, domain);
-    check(queues[q].count < plan.sizes.depth, Refusal::QueueFull)?;
-    Ok(q)
+impl<P: Copy> Lent<'_, P> {
+    // The queue that a packet may join, or why it may not.
+    fn admitted(&self, router: u8, domain: u8, destination: u8) -> Result<usize, Refusal>
+        ensures { WithAnyRules self.now.plan.now (λ m.
+            let t = tables_of self.now in
+            let q = own_queue m router domain in
+            result ≡ answer (injection_refusal m (sound_tables m t) (lengths t 0 0) router domain destination (queue_at t q).count) q) }
+    {
+        self.check_tables()?;
+        let routers = self.plan.routers();
+        check(
+            (router < routers) & (destination < routers),
+            Refusal::OutsideMesh,
+        )?;
+        check(domain < self.plan.sizes.domains, Refusal::NoSuchDomain)?;
+        let q = own_queue(self.plan, router, domain);
+        check(
+            self.queues[q].count < self.plan.sizes.depth,
+            Refusal::QueueFull,
+        )?;
+        Ok(q)
+    }
 }
 
-// Puts a packet at the end of queue `q`, and answers how many packets the queue then holds.
+// Puts a packet at the end of queue `q`, and answers how many packets the queue then holds. The tables are told one by one, as to `make_moves`.
 fn join<P: Copy>(
     plan: &Plan,
     queues: &mut [Queue],
@@ -74,6 +71,7 @@ fn join<P: Copy>(
 }
 
 // Puts a packet at the end of a router's own queue, ready in the present cycle, and answers how many packets the queue then holds.
+// The tables are lent one by one, a rule of the project: a caller keeps its own slices, and gives up to be changed only what changes.
 pub fn inject<P: Copy>(
     plan: &Plan,
     cycle: u32,
@@ -93,17 +91,15 @@ pub fn inject<P: Copy>(
         (tables cycle queues.old places.old payloads.old words.now)
         (injection router domain destination payload)) }
 {
-    let q = admitted(
+    let lent = Lent {
         plan,
         cycle,
         queues,
         places,
         payloads,
         words,
-        router,
-        domain,
-        destination,
-    )?;
+    };
+    let q = lent.admitted(router, domain, destination)?;
     let place = Place {
         destination,
         source: router,

@@ -1,28 +1,19 @@
 // Who owns a port, what lies across its link, and whether the queue that it feeds has room.
-ghost use Rattle.std.specs.Prelude.{◌≡◌, ℕ, ◌+◌, ◌*◌, ◌<◌, ◌≤◌, length, IfSome};
+ghost use Rattle.std.specs.Prelude.{◌≡◌, ℕ, ◌+◌, ◌*◌, ◌<◌, IfSome};
 ghost use Rattle.machine.specs.Machine.{opposite as opposite_side};
-ghost use Rattle.mesh.specs.Heads.{queue_count, routers, ports};
+ghost use Rattle.mesh.specs.Heads.{routers, ports};
 ghost use Rattle.mesh.specs.Ports.{across as across_from, owner as owner_of, room as room_of};
 
-use machine::tables::Queue;
+use super::outset::Outset;
+use rules::arbiter::Arbiter;
+use rules::route::RouteRule;
 use schedule::plan::Plan;
 
-// The domain that a port of a router belongs to in a cycle.
-pub(crate) fn owner(plan: &Plan, cycle: u32, router: u8, port: u8) -> u8
-    requires router { router < routers plan.now }
-    requires port { port < 5 }
-    ensures is { result ≡ owner_of plan.now cycle (router * 5 + port) }
-    ensures below { result < plan.now.sizes.domains }
-{
-    match plan.owner(router, port, cycle) {
-        Some(domain) => domain,
-        None => 0,
-    }
-}
-
-// The side on which a router has the neighbour that has it on this side.
+// The side on which a router has the neighbour that has it on this side. Sides are numbers here, since port or side k of the mesh is k % 5.
+#[tactic(auto, using(crate::proofs::Across::opposite_high), unfolding(machine::specs::Machine::opposite))]
 fn opposite(side: usize) -> usize
-    ensures { result ≡ opposite_side side }
+    ensures is { result ≡ opposite_side side }
+    ensures below { result < 5 }
 {
     match side {
         0 => 1,
@@ -39,25 +30,31 @@ pub(crate) fn across(plan: &Plan, k: usize) -> Option<usize>
     ensures is { result ≡ across_from plan.now k }
     ensures inside { IfSome result (λ j. j < ports plan.now) }
 {
-    match plan.neighbour((k / 5) as u8, (k % 5) as u8) {
-        Some(next) => Some(next as usize * 5 + opposite(k % 5)),
-        None => None,
-    }
+    let back = opposite(k % 5);
+    plan.neighbour((k / 5) as u8, (k % 5) as u8)
+        .map(|next| next as usize * 5 + back)
 }
 
-// Whether the queue that port `k` feeds in `domain` has room as the cycle begins; a router's own core always has.
-pub(crate) fn has_room(plan: &Plan, queues: &[Queue], k: usize, domain: u8) -> bool
-    requires port_in { k < ports plan.now }
-    requires domain_in { domain < plan.now.sizes.domains }
-    requires queues_in { queue_count plan.now ≤ length queues.now }
-    ensures { result ≡ room_of plan.now queues.now k domain }
-{
-    if k % 5 == 4 {
-        return true;
+impl<A: Arbiter, R: RouteRule> Outset<'_, A, R> {
+    // The domain that a port of a router belongs to. The port is a number, as the plan is asked for it.
+    pub(crate) fn owner(&self, router: u8, port: u8) -> u8
+        requires router { router < routers self.now.plan.now }
+        requires port { port < 5 }
+        ensures is { result ≡ owner_of self.now.plan.now self.now.cycle (router * 5 + port) }
+        ensures below { result < self.now.plan.now.sizes.domains }
+    {
+        self.plan.owner(router, port, self.cycle).unwrap()
     }
-    match across(plan, k) {
-        Some(j) => queues[j * plan.sizes.domains as usize + domain as usize].count
-            < plan.sizes.depth,
-        None => false,
+
+    // Whether the queue that port `k` feeds in `domain` has room as the cycle begins; a router's own core always has.
+    pub(crate) fn has_room(&self, k: usize, domain: u8) -> bool
+        requires port_in { k < ports self.now.plan.now }
+        requires domain_in { domain < self.now.plan.now.sizes.domains }
+        ensures { result ≡ room_of self.now.plan.now self.now.queues.now k domain }
+    {
+        let (domains, depth) = (self.plan.sizes.domains as usize, self.plan.sizes.depth);
+        let domain = domain as usize;
+        k % 5 == 4
+            || across(self.plan, k).is_some_and(|j| self.queues[j * domains + domain].count < depth)
     }
 }

@@ -1,10 +1,9 @@
-// What a port does in one cycle; all is 0 where it passes nothing.
+// What a port does in a cycle in which it passes a packet.
 #[derive(Clone, Copy)]
 pub(crate) struct Move {
-    pub(crate) passes: bool,
     // the domain that the port belongs to
     pub(crate) owner: u8,
-    // the side whose first packet it passes
+    // the side whose first packet it passes, by its number: as the arbiter tells it, and as the queue's number has it
     pub(crate) winner: u8,
     // the arbiter's next word
     pub(crate) next: u32,

@@ -7,6 +7,7 @@ ghost use Rattle.mesh.specs.Needed.{WithAnyRules, six};
 use schedule::plan::Plan;
 
 // How many queue records a mesh has, and how many words.
+#[tactic(auto, unfolding(machine::specs::Machine::queues, machine::specs::Machine::routers, machine::specs::Machine::domains))]
 pub fn queues_needed(plan: &Plan) -> usize
     ensures { WithAnyRules plan.now (λ m. result ≡ queue_count m) }
 {
@@ -14,6 +15,7 @@ pub fn queues_needed(plan: &Plan) -> usize
 }
 
 // How many places its queues have, and how many payloads.
+#[tactic(auto, unfolding(machine::specs::Machine::depth))]
 pub fn places_needed(plan: &Plan) -> usize
     ensures { WithAnyRules plan.now (λ m. result ≡ queue_count m * depth m) }
 {
@@ -21,6 +23,7 @@ pub fn places_needed(plan: &Plan) -> usize
 }
 
 // How many delivery records a step writes, and how many delivered payloads lie beside them.
+#[tactic(auto, unfolding(machine::specs::Machine::routers))]
 pub fn deliveries_needed(plan: &Plan) -> usize
     ensures { WithAnyRules plan.now (λ m. result ≡ router_count m) }
 {
@@ -28,6 +31,7 @@ pub fn deliveries_needed(plan: &Plan) -> usize
 }
 
 // Whether the four tables that every call is lent have these lengths or more.
+#[tactic(auto, using(std::proofs::lemmas::Bool::Decides::nat_tests), unfolding(machine::specs::Calls::long_enough))]
 pub(crate) fn tables_long_enough(
     plan: &Plan,
     queues: usize,
@@ -39,14 +43,15 @@ pub(crate) fn tables_long_enough(
 {
     let queue_count = queues_needed(plan);
     let place_count = places_needed(plan);
-    (queue_count <= queues)
-        & ((place_count <= places) & ((place_count <= payloads) & (queue_count <= words)))
+    queue_count <= queues
+        && (place_count <= places && (place_count <= payloads && queue_count <= words))
 }
 
 // Whether the two delivery tables that a step is lent have these lengths or more.
+#[tactic(auto, using(std::proofs::lemmas::Bool::Decides::nat_tests))]
 pub(crate) fn deliveries_long_enough(plan: &Plan, deliveries: usize, delivered: usize) -> bool
     ensures { WithAnyRules plan.now (λ m. result ≡ (nat_le (router_count m) deliveries && nat_le (router_count m) delivered)) }
 {
     let router_count = deliveries_needed(plan);
-    (router_count <= deliveries) & (router_count <= delivered)
+    router_count <= deliveries && router_count <= delivered
 }

@@ -12,25 +12,8 @@ use machine::tables::{Place, Queue};
 use schedule::plan::Plan;
 use schedule::refusal::Refusal;
 
-fn empty_queues(queues: &mut [Queue], n: usize)
-    requires { n ≤ length queues.old }
-    ensures { queues.new ≡ edit 0 n (λ _ _. no_packets) queues.old }
-{
-    for i in 0..n {
-        queues[i] = Queue { first: 0, count: 0 };
-    }
-}
-
-fn clear_words(words: &mut [u32], n: usize)
-    requires { n ≤ length words.old }
-    ensures { words.new ≡ edit 0 n (λ _ _. 0) words.old }
-{
-    for i in 0..n {
-        words[i] = 0;
-    }
-}
-
 // Empties every queue and clears every word of a mesh, and puts it to cycle 0. What the places hold stays.
+// Every call is lent the tables one by one, since a caller keeps them where it likes.
 pub fn open<P: Copy>(
     plan: &Plan,
     cycle: &mut u32,
@@ -54,8 +37,8 @@ pub fn open<P: Copy>(
     );
     check(long, Refusal::TableTooShort)?;
     let n = queues_needed(plan);
-    empty_queues(queues, n);
-    clear_words(words, n);
+    queues[..n].fill(Queue::default());
+    words[..n].fill(0);
     *cycle = 0;
     Ok(())
 }

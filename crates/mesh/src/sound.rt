@@ -2,115 +2,99 @@
 ghost use Rattle.std.specs.Prelude.{◌≡◌, ℕ, ◌+◌, ◌*◌, ◌<◌, ◌≤◌, not, ◌&&◌, length};
 ghost use Rattle.machine.specs.Tables.{all_below};
 ghost use Rattle.mesh.specs.Heads.{queue_count, routers};
-ghost use Rattle.mesh.specs.Scan.{held, sound_place, sound_held, sound_queue, sound as sound_tables};
+ghost use Rattle.mesh.specs.Scan.{held, sound_place, sound_in, sound_ring, sound as sound_tables};
 
+use super::lent::Lent;
 use super::needed::queues_needed;
 use machine::tables::{Place, Queue};
-use schedule::plan::Plan;
 
-fn place_sound(plan: &Plan, cycle: u32, x: Place) -> bool
-    ensures { result ≡ sound_place plan.now cycle x }
-{
-    let routers = plan.routers();
-    (x.destination < routers)
-        & ((x.source < routers) & (x.ready <= cycle as u64 + plan.sizes.hop as u64 - 1))
-}
-
-// Whether place `s` of a queue of B places holds a packet.
+// Whether place `s` of a queue of B places holds a packet. The record is the caller's and may say anything, so that its first place is below B is asked here.
 fn holds<const B: usize>(x: Queue, s: usize) -> bool
-    requires first { x.first < B }
-    requires place { s < B }
-    requires low { B ≤ 4 }
+    requires { x.first < B }
     ensures { result ≡ held B x s }
 {
     let first = x.first as usize;
-    let back = if s < first { s + B } else { s };
-    back - first < x.count as usize
+    let turn = if s < first { B - first + s } else { s - first };
+    turn < x.count as usize
 }
 
-// Whether what stands at place `s` of a queue is a packet that does not belong there.
-fn spoils<const B: usize>(plan: &Plan, cycle: u32, x: Queue, s: usize, place: Place) -> bool
-    requires first { x.first < B }
-    requires place { s < B }
-    requires low { B ≤ 4 }
-    ensures { result ≡ (not (sound_place plan.now cycle place) && held B x s) }
-{
-    !place_sound(plan, cycle, place) && holds::<B>(x, s)
-}
-
-// Whether the packets of queue `q`, whose record is `x`, are sound. Looking at each place in order is faster than following the ring.
-fn packets_sound<const B: usize>(
-    plan: &Plan,
-    cycle: u32,
-    places: &[Place],
-    q: usize,
-    x: Queue,
-) -> bool
-    requires deep { B ≡ plan.now.sizes.depth }
-    requires queue { q < queue_count plan.now }
-    requires long { queue_count plan.now * plan.now.sizes.depth ≤ length places.now }
-    requires first { x.first < B }
-    requires count { x.count ≤ B }
-    ensures { result ≡ all_below (sound_held plan.now cycle places.now q x.first) x.count }
-{
-    if x.count == 0 {
-        return true;
+impl<P: Copy> Lent<'_, P> {
+    fn place_sound(&self, x: Place) -> bool
+        ensures { result ≡ sound_place self.now.plan.now self.now.cycle x }
+    {
+        let routers = self.plan.routers();
+        x.destination < routers
+            && x.source < routers
+            && x.ready <= u64::from(self.cycle) + u64::from(self.plan.sizes.hop) - 1
     }
-    for s in 0..B {
-        if spoils::<B>(plan, cycle, x, s, places[q * B + s]) {
+
+    // Whether what stands at place `s` of a queue is a packet that does not belong there.
+    fn spoils<const B: usize>(&self, x: Queue, s: usize, place: Place) -> bool
+        requires { x.first < B }
+        ensures { result ≡ (not (sound_place self.now.plan.now self.now.cycle place) && held B x s) }
+    {
+        !self.place_sound(place) && holds::<B>(x, s)
+    }
+
+    // Whether the packets of a queue with B places are sound. Looking at each place in order is faster than following the ring.
+    fn packets_sound<const B: usize>(&self, x: Queue, ring: &[Place; B]) -> bool
+        requires first { x.first < B }
+        requires count { x.count ≤ B }
+        ensures { result ≡ all_below (sound_in self.now.plan.now self.now.cycle B ring.now x.first) x.count }
+    {
+        if x.count == 0 {
+            return true;
+        }
+        // a loop and no `all`, here and below: the closure of an `all` would have to state in clauses what it is given and answers
+        for (s, place) in ring.iter().enumerate() {
+            if self.spoils::<B>(x, s, *place) {
+                return false;
+            }
+        }
+        true
+    }
+
+    // Whether a queue with B places, which has the record `x`, is sound.
+    #[tactic(auto, using(std::proofs::lemmas::Bool::Decides::nat_tests), unfolding(crate::specs::Scan::sound_ring))]
+    fn queue_sound<const B: usize>(&self, x: Queue, ring: &[Place; B]) -> bool
+        ensures { result ≡ sound_ring self.now.plan.now self.now.cycle B x ring.now }
+    {
+        if x.first as usize >= B {
             return false;
         }
-    }
-    true
-}
-
-fn queue_sound<const B: usize>(
-    plan: &Plan,
-    cycle: u32,
-    queues: &[Queue],
-    places: &[Place],
-    q: usize,
-) -> bool
-    requires deep { B ≡ plan.now.sizes.depth }
-    requires queue { q < queue_count plan.now }
-    requires queues_in { queue_count plan.now ≤ length queues.now }
-    requires long { queue_count plan.now * plan.now.sizes.depth ≤ length places.now }
-    ensures { result ≡ sound_queue plan.now cycle queues.now places.now q }
-{
-    let x = queues[q];
-    if x.first as usize >= B {
-        return false;
-    }
-    if x.count as usize > B {
-        return false;
-    }
-    packets_sound::<B>(plan, cycle, places, q, x)
-}
-
-fn queues_sound<const B: usize>(plan: &Plan, cycle: u32, queues: &[Queue], places: &[Place]) -> bool
-    requires deep { B ≡ plan.now.sizes.depth }
-    requires queues_in { queue_count plan.now ≤ length queues.now }
-    requires long { queue_count plan.now * plan.now.sizes.depth ≤ length places.now }
-    ensures { result ≡ sound_tables plan.now cycle queues.now places.now }
-{
-    for q in 0..queues_needed(plan) {
-        if !queue_sound::<B>(plan, cycle, queues, places, q) {
+        if x.count as usize > B {
             return false;
         }
+        self.packets_sound(x, ring)
     }
-    true
-}
 
-// Whether every queue is sound. Each depth has code of its own.
-pub(crate) fn sound(plan: &Plan, cycle: u32, queues: &[Queue], places: &[Place]) -> bool
-    requires queues_in { queue_count plan.now ≤ length queues.now }
-    requires long { queue_count plan.now * plan.now.sizes.depth ≤ length places.now }
-    ensures { result ≡ sound_tables plan.now cycle queues.now places.now }
-{
-    match plan.sizes.depth {
-        1 => queues_sound::<1>(plan, cycle, queues, places),
-        2 => queues_sound::<2>(plan, cycle, queues, places),
-        3 => queues_sound::<3>(plan, cycle, queues, places),
-        _ => queues_sound::<4>(plan, cycle, queues, places),
+    fn queues_sound<const B: usize>(&self) -> bool
+        requires deep { B ≡ self.now.plan.now.sizes.depth }
+        requires queues_in { queue_count self.now.plan.now ≤ length self.now.queues.now }
+        requires long { queue_count self.now.plan.now * self.now.plan.now.sizes.depth ≤ length self.now.places.now }
+        ensures { result ≡ sound_tables self.now.plan.now self.now.cycle self.now.queues.now self.now.places.now }
+    {
+        let (rings, _) = self.places.as_chunks::<B>();
+        let needed = &self.queues[..queues_needed(self.plan)];
+        for (x, ring) in needed.iter().zip(rings) {
+            if !self.queue_sound(*x, ring) {
+                return false;
+            }
+        }
+        true
+    }
+
+    // Whether every queue is sound. Each depth has code of its own, in which the loop over the places of a queue has a fixed length: that is faster.
+    pub(crate) fn sound(&self) -> bool
+        requires queues_in { queue_count self.now.plan.now ≤ length self.now.queues.now }
+        requires long { queue_count self.now.plan.now * self.now.plan.now.sizes.depth ≤ length self.now.places.now }
+        ensures { result ≡ sound_tables self.now.plan.now self.now.cycle self.now.queues.now self.now.places.now }
+    {
+        match self.plan.sizes.depth {
+            1 => self.queues_sound::<1>(),
+            2 => self.queues_sound::<2>(),
+            3 => self.queues_sound::<3>(),
+            _ => self.queues_sound::<4>(),
+        }
     }
 }

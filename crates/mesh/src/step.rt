@@ -1,21 +1,40 @@
 // A step: one cycle of the mesh, in place.
 ghost use Rattle.std.specs.Prelude.{◌≡◌, ℕ, ◌+◌, ◌*◌, ◌<◌, ◌≤◌, length};
-ghost use Rattle.machine.specs.Calls.{outcome, outcome_of, step as step_call};
+ghost use Rattle.schedule.specs.Verdict.{answered};
+ghost use Rattle.machine.specs.Calls.{lengths, outcome, outcome_of, step as step_call, step_refusal};
 ghost use Rattle.machine.specs.Machine.{machine};
-ghost use Rattle.machine.specs.Tables.{tables};
+ghost use Rattle.machine.specs.Tables.{sound as sound_tables, tables};
+ghost use Rattle.mesh.specs.Needed.{WithAnyRules};
+ghost use Rattle.mesh.specs.Shared.{tables_of};
 
 use super::apply::make_moves;
-use super::choose::choose_all;
+use super::checks::check;
 use super::deliver::deliver;
-use super::needed::{deliveries_long_enough, tables_long_enough};
-use super::sound::sound;
+use super::lent::Lent;
+use super::needed::deliveries_long_enough;
+use super::outset::Outset;
 use machine::tables::{Delivery, Place, Queue};
 use rules::arbiter::Arbiter;
 use rules::route::RouteRule;
 use schedule::plan::Plan;
 use schedule::refusal::Refusal;
 
+impl<P: Copy> Lent<'_, P> {
+    // Whether a cycle may be run, with two delivery tables of these lengths.
+    fn check_step(&self, deliveries: usize, delivered: usize) -> Result<(), Refusal>
+        ensures { WithAnyRules self.now.plan.now (λ m.
+            let t = tables_of self.now in
+            result ≡ answered (step_refusal m (sound_tables m t) (lengths t deliveries delivered) t.cycle)) }
+    {
+        let long = deliveries_long_enough(self.plan, deliveries, delivered);
+        check(long, Refusal::TableTooShort)?;
+        self.check_tables()?;
+        check(self.cycle < u32::MAX, Refusal::CyclesSpent)
+    }
+}
+
 // Runs one cycle, and answers which.
+// Every call is lent the tables one by one, since a caller keeps them where it likes.
 pub fn step<A: Arbiter, R: RouteRule, P: Copy>(
     plan: &Plan,
     arbiter: &A,
@@ -35,25 +54,28 @@ pub fn step<A: Arbiter, R: RouteRule, P: Copy>(
         (step_call deliveries.old delivered.old) }
 {
     let present = *cycle;
-    let long = tables_long_enough(
+    let tables = Lent {
         plan,
-        queues.len(),
-        places.len(),
-        payloads.len(),
-        words.len(),
-    ) & deliveries_long_enough(plan, deliveries.len(), delivered.len());
-    if !long {
-        return Err(Refusal::TableTooShort);
-    }
-    if !sound(plan, present, queues, places) {
-        return Err(Refusal::UnsoundTable);
-    }
-    if present == 4294967295 {
-        return Err(Refusal::CyclesSpent);
-    }
-    let moves = choose_all(plan, arbiter, rule, present, queues, places, words);
-    deliver(plan, &moves, payloads, deliveries, delivered);
-    make_moves(plan, present, &moves, queues, places, payloads, words);
+        cycle: present,
+        queues,
+        places,
+        payloads,
+        words,
+    };
+    tables.check_step(deliveries.len(), delivered.len())?;
+    let outset = Outset {
+        plan,
+        arbiter,
+        rule,
+        cycle: present,
+        queues,
+        places,
+        words,
+    };
+    let chosen = outset.choose_all();
+    let moves = &chosen[..plan.routers() as usize * 5];
+    deliver(moves, payloads, deliveries, delivered);
+    make_moves(plan, present, moves, queues, places, payloads, words);
     *cycle = present + 1;
     Ok(present)
 }

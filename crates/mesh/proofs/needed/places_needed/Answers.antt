@@ -1,5 +1,4 @@
-use Rattle.std.proofs.Common.{◌*◌, ap, arith}
-use Rattle.machine.specs.Machine.{depth}
+use Rattle.std.proofs.Common.{arith}
 use Rattle.mesh.proofs.Index.{place_count_le}
 use Rattle.mesh.proofs.Counts.{queues_counted}
 use Rattle.mesh.proofs.needed.places_needed.Goals as goal
@@ -9,7 +8,3 @@ overflow_mul-result c =
     let n = queues_counted c.args.plan.now c.queues_needed.result c.queues_needed.ensures in
     let few = place_count_le c.args.plan.now in
     rw n (omega arith)
-
-pub returns : goal.returns
-unfolding depth
-returns c = λ choose route. ap (λ n. n * c.args.plan.now.sizes.depth) (c.queues_needed.ensures choose route)

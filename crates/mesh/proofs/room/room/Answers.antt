@@ -17,9 +17,7 @@ returns-in_err-check_tables g c = λ choose route.
     let a = c.args in
     let t = tables {P = g.row.P.Denot} a.cycle a.queues.now a.places.now a.payloads.now a.words.now in
     let m = machine c.args.plan.now choose route in
-    no_room m t c.args.router c.args.domain _ c.in_err-check_tables.field-0.0
-    (handed_on c.from_residual.result c.in_err-check_tables.field-0.0 c.from_residual.ensures.1)
-    (stops (table_checks m t) _ _ (c.in_err-check_tables.ensures choose route))
+    no_room _ _ _ _ _ _ (handed_on _ _ c.from_residual.ensures.1) (stops (table_checks m t) _ _ (c.in_err-check_tables.ensures choose route))
 
 pub returns-in_err-check : goal.returns-in_err-check
 unfolding room_refusal routers
@@ -28,10 +26,8 @@ returns-in_err-check g c = λ choose route.
     let t = tables {P = g.row.P.Denot} a.cycle a.queues.now a.places.now a.payloads.now a.words.now in
     let m = machine c.args.plan.now choose route in
     let inside = ap (λ n. ltb c.args.router n) c.routers.ensures.is in
-    no_room m t c.args.router c.args.domain _ c.in_err-check.field-0.0
-    (handed_on c.from_residual-in_err-check.result c.in_err-check.field-0.0 c.from_residual-in_err-check.ensures.1)
-    (goes_on (table_checks m t) _ (c.in_ok-check_tables.ensures choose route)
-    ∙ check_stops _ _ inside OutsideMesh _ _ c.in_err-check.ensures)
+    no_room _ _ _ _ _ _ (handed_on _ _ c.from_residual-in_err-check.ensures.1)
+    (goes_on (table_checks m t) _ (c.in_ok-check_tables.ensures choose route) ∙ check_stops _ _ inside OutsideMesh _ _ c.in_err-check.ensures)
 
 pub returns-in_err-check-2 : goal.returns-in_err-check-2
 unfolding room_refusal routers domains
@@ -40,8 +36,7 @@ returns-in_err-check-2 g c = λ choose route.
     let t = tables {P = g.row.P.Denot} a.cycle a.queues.now a.places.now a.payloads.now a.words.now in
     let m = machine c.args.plan.now choose route in
     let inside = ap (λ n. ltb c.args.router n) c.routers.ensures.is in
-    no_room m t c.args.router c.args.domain _ c.in_err-check-2.field-0.0
-    (handed_on c.from_residual-in_err-check-2.result c.in_err-check-2.field-0.0 c.from_residual-in_err-check-2.ensures.1)
+    no_room _ _ _ _ _ _ (handed_on _ _ c.from_residual-in_err-check-2.ensures.1)
     (goes_on (table_checks m t) _ (c.in_ok-check_tables.ensures choose route)
     ∙ check_passes _ _ inside OutsideMesh _ c.in_ok-check.ensures
     ∙ check_stops _ _ refl NoSuchDomain _ _ c.in_err-check-2.ensures)
@@ -56,16 +51,14 @@ pub bounds-queues-own_queue : goal.bounds-queues-own_queue
 bounds-queues-own_queue g c =
     let a = c.args in
     let t = tables {P = g.row.P.Denot} a.cycle a.queues.now a.places.now a.payloads.now a.words.now in
-    let f = tables_fit c.args.plan.now some_choice some_route t
-    (none_refuses _ (c.in_ok-check_tables.ensures some_choice some_route)) in
+    let f = tables_fit c.args.plan.now some_choice some_route t (none_refuses _ (c.in_ok-check_tables.ensures some_choice some_route)) in
     omega (arith, f.fit.queues_in, c.own_queue.ensures.inside)
 
 pub overflow_sub-result : goal.overflow_sub-result
 overflow_sub-result g c =
     let a = c.args in
     let t = tables {P = g.row.P.Denot} a.cycle a.queues.now a.places.now a.payloads.now a.words.now in
-    let f = tables_fit c.args.plan.now some_choice some_route t
-    (none_refuses _ (c.in_ok-check_tables.ensures some_choice some_route)) in
+    let f = tables_fit c.args.plan.now some_choice some_route t (none_refuses _ (c.in_ok-check_tables.ensures some_choice some_route)) in
     f.fit.counts c.own_queue.result c.own_queue.ensures.inside
 
 pub returns : goal.returns
@@ -75,7 +68,7 @@ returns g c = λ choose route.
     let t = tables {P = g.row.P.Denot} a.cycle a.queues.now a.places.now a.payloads.now a.words.now in
     let m = machine c.args.plan.now choose route in
     let inside = ap (λ n. ltb c.args.router n) c.routers.ensures.is in
-    tells_room m t c.args.router c.args.domain _
+    tells_room _ _ _ _ _
     (ap (λ q. c.args.plan.now.sizes.depth - (get_or c.args.queues.now q no_queue).count) (c.own_queue.ensures.is choose route))
     (goes_on (table_checks m t) _ (c.in_ok-check_tables.ensures choose route)
     ∙ check_passes _ _ inside OutsideMesh _ c.in_ok-check.ensures

@@ -1,0 +1,11 @@
+use Rattle.std.proofs.Common.{◌≡◌, ◌*◌, replicate, None}
+use Rattle.machine.specs.Moves.{edit}
+use Rattle.mesh.specs.Shared.{outset_of}
+use Rattle.mesh.specs.Ports.{chosen}
+use Rattle.mesh.proofs.outset.Outset.choose_all.Given as goal
+
+abbrev pub invariant-loop-router : goal.invariant-loop-router
+invariant-loop-router g l = l.moves
+    ≡ edit 0 (l.router * 5)
+    (chosen (outset_of g.R.RouteRule.meaning l.self) (g.A.Arbiter.meaning l.self.arbiter.now) l.self.words.now)
+    (replicate 320 None)

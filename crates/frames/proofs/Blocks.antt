@@ -1,10 +1,36 @@
 -- How a block's lines are found: by the place of the first line feed, one line after the other.
-use Rattle.std.proofs.Common.{◌≡◌, ℕ, suc, ◌-◌, ◌<◌, ◌≤◌, Bool, true, false, cond, eqb, ◌⊎◌, List, [], ◌∷◌, ◌++◌, length, take, drop, Some, None, Option, sym, refl, ap, ◌∙◌, subst, inl, inr, arith, MatchOption}
-use Rattle.std.specs.List.{flat_map, AllByRecursion}
-use Rattle.std.proofs.lemmas.List.{drop_all, take_rest}
-use Rattle.std.proofs.lemmas.Bool.{cases_lt, cases_eq, cond-false, eq-eqb, ne_eqb}
-use Rattle.frames.specs.Lines.{LineText, ended, unended, line_feed, feed_place, after_line, begun}
+use Rattle.std.proofs.Common.{◌≡◌, ℕ, suc, ◌+◌, ◌<◌, ◌≤◌, Bool, true, false, cond, eqb, ltb, not, ◌⊎◌, List, [], ◌∷◌, ◌++◌, length, take, drop, Some, None, Option, sym, refl, ap, ◌∙◌, subst, inl, inr, arith, MatchOption}
+use Rattle.std.specs.List.{flat_map, position_or_len, AllByRecursion}
+use Rattle.std.specs.Option.{SomeIff, option_map}
+use Rattle.std.proofs.lemmas.List.{drop_all}
+use Rattle.std.proofs.lemmas.Bool.{cases_lt, cases_eq, cond-false, eq-eqb, ltb-false, ltb-true, ne_eqb}
+use Rattle.frames.specs.declared.lines.Line.{Line}
+use Rattle.frames.specs.Lines.{LineText, ended, unended, line_feed, feed_place, after_line, begun, line_value}
 use Rattle.frames.specs.Lines.{all_lines, first, first_line, line_bytes, Orderly, Whole, Walked}
+
+same_place_at : {n m : ℕ} (feed : Bool) → n ≡ m → cond (not feed) (1 + n) 0 ≡ cond feed 0 (suc m)
+same_place_at true e = refl
+same_place_at false e = omega (arith, e)
+
+found_by : {P : Type 0} (r : Option ℕ) (place : ℕ) (inside : Bool) → (inside ≡ true → P) → (inside ≡ false → P → ⊥)
+    → r ≡ cond inside (Some place) None → SomeIff r P place
+found_by None place true held out e = absurd (let z : ◌≡◌ {A = ℕ} 0 1 = cc in omega arith)
+found_by None place false held out e = out refl
+found_by (Some x) place true held out e = (held refl, cc)
+found_by (Some x) place false held out e = absurd (let z : ◌≡◌ {A = ℕ} 0 1 = cc in omega arith)
+
+-- the first line feed stands where the first byte that is one does
+same_place : (block : List ℕ) → position_or_len (λ b. eqb b line_feed) block ≡ feed_place block
+same_place [] = refl
+same_place (x ∷ xs) = same_place_at (eqb x line_feed) (same_place xs)
+
+pub feed_found :
+    (block : List ℕ) (r : Option ℕ)
+    → r ≡ cond (ltb (position_or_len (λ b. eqb b line_feed) block) (length block)) (Some (position_or_len (λ b. eqb b line_feed) block)) None
+    → SomeIff r (feed_place block < length block) (feed_place block)
+feed_found block r e =
+    found_by r (feed_place block) (ltb (feed_place block) (length block)) (ltb-true _ _) (λ no h. absurd (omega (arith, ltb-false _ _ no)))
+    (rw (← same_place block) e)
 
 ended_at :
     (x : ℕ) (xs : List ℕ) (feed : Bool)
@@ -47,14 +73,6 @@ pub first_unended :
 first_unended [] h = refl
 first_unended (x ∷ xs) h =
     ap first (line_unended (x ∷ xs) h) ∙ sym (cond-false _ None _ (ne_eqb (suc (length xs)) 0 (λ e. omega arith)))
-
--- after a line without a line feed nothing is left
-pub nothing_left :
-    (block : List ℕ) (place : ℕ) → place ≡ feed_place block → length block ≤ place
-    → take (length block - place) (drop place block) ≡ after_line block
-nothing_left block place e h =
-    let past : length block ≤ suc (feed_place block) = omega arith in
-    take_rest block place ∙ (drop_all place block h ∙ sym (drop_all (suc (feed_place block)) block past))
 
 walked_by : (block : List ℕ) (line : LineText) → all_lines block ≡ line ∷ all_lines (after_line block) → Walked block
 walked_by block line e =
@@ -105,6 +123,27 @@ joined_at x xs more (inr other) =
 joined_whole : (block : List ℕ) → flat_map line_bytes (all_lines block) ≡ block
 joined_whole [] = refl
 joined_whole (x ∷ xs) = joined_at x xs (joined_whole xs) (cases_eq x line_feed)
+
+-- a line that is handed out is the first of those that were left
+handed_none :
+    (block left : List ℕ) → Walked block → None ≡ first_line block → left ≡ after_line block → flat_map line_bytes (all_lines block) ≡ block
+    → (all_lines block ≡ []) × (all_lines left ≡ [])
+handed_none block left walks e rest whole =
+    let none : all_lines block ≡ [] = subst (λ o. MatchOption o (all_lines block ≡ []) (λ line. all_lines block ≡ line ∷ all_lines (after_line block))) (sym e) walks in
+    let empty : block ≡ [] = sym whole ∙ ap (λ (lines : List LineText). flat_map line_bytes lines) none in
+    (none, rw (rest, empty) refl)
+
+handed_some :
+    (block left : List ℕ) (line : LineText) → Walked block → Some line ≡ first_line block → left ≡ after_line block
+    → all_lines block ≡ line ∷ all_lines left
+handed_some block left line walks e rest =
+    rw rest (subst (λ o. MatchOption o (all_lines block ≡ []) (λ line. all_lines block ≡ line ∷ all_lines (after_line block))) (sym e) walks)
+
+pub handed_out :
+    (block left : List ℕ) (r : Option Line) → option_map line_value r ≡ first_line block → left ≡ after_line block
+    → MatchOption r ((all_lines block ≡ []) × (all_lines left ≡ [])) (λ line. all_lines block ≡ line_value line ∷ all_lines left)
+handed_out block left None e rest = handed_none block left (walked block) e rest (joined_whole block)
+handed_out block left (Some line) e rest = handed_some block left (line_value line) (walked block) e rest
 
 all_lines_ended :
     (text rest : List ℕ) → AllByRecursion (λ b. b ≡ line_feed → ⊥) text

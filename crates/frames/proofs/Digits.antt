@@ -1,7 +1,7 @@
 -- Hexadecimal digits and bytes: one spelling each.
-use Rattle.std.proofs.Common.{◌≡◌, ℕ, ◌+◌, ◌*◌, ◌/◌, ◌%◌, ◌<◌, List, [], ◌∷◌, Some, None, Option, sym, refl, ap, ◌∙◌, arith}
+use Rattle.std.proofs.Common.{◌≡◌, ℕ, ◌+◌, ◌*◌, ◌/◌, ◌%◌, ◌<◌, List, [], ◌∷◌, Some, None, Option, refl, arith}
 use Rattle.std.specs.List.{range_with_len, AllByRecursion}
-use Rattle.frames.specs.Hex.{digit, digit_value, hex_of, bytes_of, paired, OneSpelling}
+use Rattle.frames.specs.Hex.{digit, digit_value, hex_of, bytes_of, paired}
 use Rattle.frames.proofs.Apart.{found_right, same_counting, counting_below}
 
 digit_read : (v : ℕ) → v < 16 → digit_value (digit v) ≡ Some v
@@ -13,7 +13,7 @@ digit_written v c h = found_right digit (λ k. k < 16) (range_with_len 0 16) (co
 byte_back : (b : ℕ) (bs : List ℕ) → b < 256 → paired (Some (b / 16)) (Some (b % 16)) (Some bs) ≡ Some (b ∷ bs)
 byte_back b bs h = let e : b / 16 * 16 + b % 16 ≡ b = omega arith in rw e
 
-bytes_back : (bytes : List ℕ) → AllByRecursion (λ b. b < 256) bytes → bytes_of (hex_of bytes) ≡ Some bytes
+pub bytes_back : (bytes : List ℕ) → AllByRecursion (λ b. b < 256) bytes → bytes_of (hex_of bytes) ≡ Some bytes
 bytes_back [] h = refl
 bytes_back (b ∷ bs) h =
     let high : b / 16 < 16 = omega arith in
@@ -36,11 +36,8 @@ text_back_at c d text (Some high) (Some low) (Some rest) bytes eh el em h =
     let down : (high * 16 + low) % 16 ≡ low = omega arith in
     rw (this, up, down, dh.0, dl.0, em rest refl)
 
-text_back : (text bytes : List ℕ) → bytes_of text ≡ Some bytes → hex_of bytes ≡ text
+pub text_back : (text bytes : List ℕ) → bytes_of text ≡ Some bytes → hex_of bytes ≡ text
 text_back [] bytes h = let this : bytes ≡ [] = cc in rw this
 text_back (c ∷ []) bytes h = absurd (let z : ◌≡◌ {A = ℕ} 0 1 = cc in omega arith)
 text_back (c ∷ d ∷ text) bytes h =
     text_back_at c d text (digit_value c) (digit_value d) (bytes_of text) bytes refl refl (text_back text) h
-
-pub one_spelling : OneSpelling
-one_spelling bytes text = ((λ h e. ap bytes_of (sym e) ∙ bytes_back bytes h), text_back text bytes)

@@ -7,6 +7,7 @@ use Rattle.frames.specs.Choices.{arbiter_number, arbiter_of, route_number, route
 use Rattle.frames.specs.declared.choices.ArbiterKind.{ArbiterKind}
 use Rattle.frames.specs.declared.choices.RouteKind.{RouteKind}
 use Rattle.frames.specs.declared.choices.PayloadKind.{PayloadKind}
+use Rattle.frames.specs.declared.choices.Choices.{Choices}
 use Rattle.frames.specs.declared.frame.Frame.{Frame}
 use Rattle.frames.specs.declared.frame.Frame.TheVariants.{Plan, Inject, Steps}
 use Rattle.frames.specs.declared.given.GivenPlan.{GivenPlan}
@@ -44,15 +45,19 @@ frame_bytes (steps count) = 3 ∷ count ∷ []
 abbrev pub given_bytes : GivenValue → List ℕ
 given_bytes g = 6 ∷ (plan_bytes g.plan ++ g.offsets)
 
+-- a plan by its sizes, its choices and its slots
+abbrev pub plan_value : Sizes → Choices → List ℕ → PlanValue
+plan_value sizes choices slots =
+    record { sizes = sizes; arbiter = choices.arbiter; route = choices.route; payload = choices.payload; slots = slots }
+
 abbrev pub frame_value : Frame → FrameValue
-frame_value (Plan sizes arbiter route payload slots) =
-    plan (record { sizes = sizes; arbiter = arbiter; route = route; payload = payload; slots = slots.now })
-frame_value (Inject router domain destination payload) = inject router domain destination payload
+frame_value (Plan sizes choices slots) = plan (plan_value sizes choices slots.now)
+frame_value (Inject i) = inject i.router i.domain i.destination i.payload
 frame_value (Steps count) = steps count
 
 abbrev pub given_value : GivenPlan → GivenValue
 given_value g = record {
-  plan = record { sizes = g.sizes; arbiter = g.arbiter; route = g.route; payload = g.payload; slots = g.slots.now };
+  plan = plan_value g.sizes g.choices g.slots.now;
   offsets = g.offsets.now;
 }
 

@@ -1,6 +1,9 @@
+pub mod Back
 pub mod Choices
+pub mod Chosen
 pub mod Frames
 pub mod Hex
+pub mod Limits
 pub mod Lines
 pub mod Numbered
 pub mod Numerals

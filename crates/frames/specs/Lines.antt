@@ -47,6 +47,10 @@ first (line ∷ lines) = Some line
 abbrev pub first_line : List ℕ → Option LineText
 first_line block = first (all_lines block)
 
+-- the lines that a reader has yet to hand out
+abbrev pub lines_left : Lines → List LineText
+lines_left lines = all_lines (unread lines)
+
 -- a line as it stands in the block
 abbrev pub line_bytes : LineText → List ℕ
 line_bytes (ended text) = text ++ line_feed ∷ []

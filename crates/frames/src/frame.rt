@@ -3,33 +3,35 @@ ghost use Rattle.std.specs.Option.{option_map, ok_or};
 ghost use Rattle.schedule.specs.declared.refusal.Refusal.TheVariants.{NotAFrame};
 ghost use Rattle.frames.specs.Frames.{OneFrame, bare, decoded, frame_value, injection_of, plan_of, steps_of, told};
 
-use super::choices::{ArbiterKind, PayloadKind, RouteKind};
+use super::choices::Choices;
 use super::given::{GivenPlan, plan_fields};
 use schedule::refusal::Refusal;
 use schedule::sizes::Sizes;
 
 // What a program is told to do.
-#[derive(Clone, Copy)]
+#[derive(Clone, Copy, Debug, PartialEq, Eq)]
 pub enum Frame<'a> {
     // start a mesh by a plan, whose offsets are built
     Plan {
         sizes: Sizes,
-        arbiter: ArbiterKind,
-        route: RouteKind,
-        payload: PayloadKind,
+        choices: Choices,
         slots: &'a [u8],
     },
     // put a packet into the queue of a router's own core
-    Inject {
-        router: u8,
-        domain: u8,
-        destination: u8,
-        payload: [u8; 4],
-    },
+    Inject(Injection),
     // let that many cycles pass
     Steps {
         count: u8,
     },
+}
+
+// A packet on its way into the mesh.
+#[derive(Clone, Copy, Debug, PartialEq, Eq)]
+pub struct Injection {
+    pub router: u8,
+    pub domain: u8,
+    pub destination: u8,
+    pub payload: [u8; 4],
 }
 
 // The frame that has these bytes.
@@ -46,9 +48,10 @@ fn frame_of<'a>(bytes: &'a [u8]) -> Option<Frame<'a>>
     let [kind, fields @ ..] = bytes else {
         return None;
     };
+    // a kind is named by its first byte alone: an enum of kinds would be matched as this is
     match *kind {
         1 => bare_plan(fields),
-        2 => injection(fields),
+        2 => injected(fields),
         3 => steps(fields),
         _ => None,
     }
@@ -64,23 +67,21 @@ fn bare_plan<'a>(fields: &'a [u8]) -> Option<Frame<'a>>
     }
     Some(Frame::Plan {
         sizes: plan.sizes,
-        arbiter: plan.arbiter,
-        route: plan.route,
-        payload: plan.payload,
+        choices: plan.choices,
         slots: plan.slots,
     })
 }
 
-fn injection<'a>(fields: &'a [u8]) -> Option<Frame<'a>>
+fn injected<'a>(fields: &'a [u8]) -> Option<Frame<'a>>
     ensures { option_map frame_value result ≡ injection_of fields.now }
 {
     match fields {
-        [router, domain, destination, a, b, c, d] => Some(Frame::Inject {
+        [router, domain, destination, a, b, c, d] => Some(Frame::Inject(Injection {
             router: *router,
             domain: *domain,
             destination: *destination,
             payload: [*a, *b, *c, *d],
-        }),
+        })),
         _ => None,
     }
 }

@@ -3,22 +3,21 @@ ghost use Rattle.std.specs.Option.{option_map, ok_or};
 ghost use Rattle.schedule.specs.declared.refusal.Refusal.TheVariants.{NotAFrame};
 ghost use Rattle.frames.specs.Frames.{OneGiven, Split, given_of, given_value, plan_of, told};
 
-use super::choices::{ArbiterKind, PayloadKind, RouteKind};
+use super::choices::{ArbiterKind, Choices, PayloadKind, RouteKind};
 use schedule::refusal::Refusal;
 use schedule::sizes::Sizes;
 
 // A plan with its offsets given: the planner's own frame, number 6.
-#[derive(Clone, Copy)]
+#[derive(Clone, Copy, Debug, PartialEq, Eq)]
 pub struct GivenPlan<'a> {
     pub sizes: Sizes,
-    pub arbiter: ArbiterKind,
-    pub route: RouteKind,
-    pub payload: PayloadKind,
+    pub choices: Choices,
     pub slots: &'a [u8],
     pub offsets: &'a [u8],
 }
 
 // The plan and the offsets that have these bytes.
+#[tactic(auto, using(crate::proofs::OneFrame::one_given))]
 pub fn decode_given<'a>(bytes: &'a [u8]) -> Result<GivenPlan<'a>, Refusal>
     ensures plan { told given_value result ≡ ok_or (given_of bytes.now) NotAFrame }
     ensures one { OneGiven }
@@ -66,9 +65,11 @@ pub(crate) fn plan_fields<'a>(fields: &'a [u8]) -> Option<GivenPlan<'a>>
             depth: *depth,
             hop: *hop,
         },
-        arbiter: ArbiterKind::from_number(*arbiter)?,
-        route: RouteKind::from_number(*route)?,
-        payload: PayloadKind::from_number(*payload)?,
+        choices: Choices {
+            arbiter: ArbiterKind::try_from(*arbiter).ok()?,
+            route: RouteKind::try_from(*route).ok()?,
+            payload: PayloadKind::try_from(*payload).ok()?,
+        },
         slots,
         offsets,
     })
@@ -78,9 +79,5 @@ pub(crate) fn plan_fields<'a>(fields: &'a [u8]) -> Option<GivenPlan<'a>>
 fn split_slots<'a>(period: u8, bytes: &'a [u8]) -> Option<(&'a [u8], &'a [u8])>
     ensures { Split period bytes.now result }
 {
-    let period = period as usize;
-    if bytes.len() < period {
-        return None;
-    }
-    Some(bytes.split_at(period))
+    bytes.split_at_checked(usize::from(period))
 }

@@ -32,6 +32,7 @@ fn byte_of(high: u8, low: u8) -> Option<u8>
 }
 
 // The bytes that a line's text spells, where it is pairs of lowercase hexadecimal digits.
+#[tactic(auto, using(crate::proofs::Digits::bytes_back, crate::proofs::Digits::text_back))]
 pub fn from_hex(heap: Global, line: &[u8]) -> Result<Option<Vec<u8>>, AllocError>
     ensures bytes { IfOk result (λ bytes. option_map vec_items bytes ≡ bytes_of line.now) }
     ensures spelling { OneSpelling }
@@ -60,6 +61,7 @@ fn line_length(bytes: &[u8]) -> Option<usize>
 }
 
 // Appends the line that spells the bytes; for want of memory nothing is appended.
+#[tactic(auto, using(crate::proofs::Digits::bytes_back, crate::proofs::Digits::text_back))]
 pub fn append_line(out: &mut Vec<u8>, bytes: &[u8]) -> Result<(), AllocError>
     ensures line { out.new.items ≡ out.old.items ++ (if is_ok result then hex_line bytes.now else []) }
     ensures succeeds { vec_len out.old + length (hex_line bytes.now) ≤ vec_capacity out.old → is_ok result ≡ true }

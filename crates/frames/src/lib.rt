@@ -2,9 +2,11 @@
 #![tactic(auto)]
 
 pub mod choices;
+pub mod chosen;
 pub mod frame;
 pub mod given;
 pub mod hex;
+pub mod limits;
 pub mod lines;
 pub mod output;
 pub mod payload;

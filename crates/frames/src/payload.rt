@@ -1,42 +1,69 @@
 ghost use Rattle.std.specs.Prelude.{◌≡◌};
-ghost use Rattle.frames.specs.Numerals.{number_at, number_bytes};
-ghost use Rattle.frames.specs.Payloads.{CollectionsBack, WordsBack, collection_payload, payload_collection};
+ghost use Rattle.frames.specs.Payloads.{BytesBack, Form, PayloadsBack, record_fits, record_form, word_fits, word_form};
+ghost use Rattle.frames.specs.Back.{record_bytes_back, records_back, word_bytes_back, words_back};
+
+// What a packet carries, as the four payload bytes of a frame.
+pub trait Payload: Copy {
+    ghost form: { Form Self };
+    // the payloads that the type holds
+    ghost fits: { Self → Type 0 };
+
+    fn to_bytes(self) -> [u8; 4]
+        ensures { result ≡ form.bytes self };
+
+    fn from_bytes(bytes: [u8; 4]) -> Self
+        ensures { result ≡ form.value bytes };
+
+    ghost back: { PayloadsBack fits form };
+
+    ghost bytes_back: { BytesBack form };
+}
 
 // What was collected: how many litres, from which tank.
-#[derive(Clone, Copy)]
+#[derive(Clone, Copy, Debug, PartialEq, Eq, Default)]
 pub struct Collection {
     pub tank: u16,
     pub litres: u16,
 }
 
-pub fn word_bytes(word: u32) -> [u8; 4]
-    ensures bytes { result ≡ number_bytes 4 word }
-    ensures back { WordsBack }
-{
-    word.to_be_bytes()
+impl Payload for u32 {
+    ghost form = { word_form };
+
+    ghost fits = { word_fits };
+
+    ghost back = { words_back };
+
+    ghost bytes_back = { word_bytes_back };
+
+    fn to_bytes(self) -> [u8; 4] {
+        self.to_be_bytes()
+    }
+
+    fn from_bytes(bytes: [u8; 4]) -> u32 {
+        u32::from_be_bytes(bytes)
+    }
 }
 
-pub fn word_from(bytes: [u8; 4]) -> u32
-    ensures { result ≡ number_at bytes 0 4 }
-{
-    u32::from_be_bytes(bytes)
-}
+impl Payload for Collection {
+    ghost form = { record_form };
 
-pub fn collection_bytes(collection: Collection) -> [u8; 4]
-    ensures bytes { result ≡ collection_payload collection }
-    ensures back { CollectionsBack }
-{
-    let [tank_high, tank_low] = collection.tank.to_be_bytes();
-    let [litres_high, litres_low] = collection.litres.to_be_bytes();
-    [tank_high, tank_low, litres_high, litres_low]
-}
+    ghost fits = { record_fits };
 
-pub fn collection_from(bytes: [u8; 4]) -> Collection
-    ensures { result ≡ payload_collection bytes }
-{
-    let [tank_high, tank_low, litres_high, litres_low] = bytes;
-    Collection {
-        tank: u16::from_be_bytes([tank_high, tank_low]),
-        litres: u16::from_be_bytes([litres_high, litres_low]),
+    ghost back = { records_back };
+
+    ghost bytes_back = { record_bytes_back };
+
+    fn to_bytes(self) -> [u8; 4] {
+        let [tank_high, tank_low] = self.tank.to_be_bytes();
+        let [litres_high, litres_low] = self.litres.to_be_bytes();
+        [tank_high, tank_low, litres_high, litres_low]
+    }
+
+    fn from_bytes(bytes: [u8; 4]) -> Collection {
+        let [tank_high, tank_low, litres_high, litres_low] = bytes;
+        Collection {
+            tank: u16::from_be_bytes([tank_high, tank_low]),
+            litres: u16::from_be_bytes([litres_high, litres_low]),
+        }
     }
 }

@@ -2,13 +2,36 @@
 #![tactic(auto)]
 
 mod report;
-mod words;
 
 use frames::lines::Lines;
 use planner::judgement::{Judgement, judge};
 use report::report_line;
 use schedule::plan::Plan;
+use std::fmt;
 use std::io::Read;
+
+// How many lines so far.
+#[derive(Clone, Copy, Debug, Default)]
+struct Counts {
+    accepted: u64,
+    refused: u64,
+}
+
+impl Counts {
+    fn count(&mut self, judgement: &Judgement) {
+        let lines = match judgement {
+            Ok(_) => &mut self.accepted,
+            Err(_) => &mut self.refused,
+        };
+        *lines = lines.saturating_add(1);
+    }
+}
+
+impl fmt::Display for Counts {
+    fn fmt<W: fmt::Write>(&self, f: &mut fmt::Formatter<W>) -> fmt::Result {
+        write!(f, "{} accepted, {} refused", self.accepted, self.refused)
+    }
+}
 
 fn main(rt: HostRuntime) -> anyhow::Result<()> {
     run(&rt)
@@ -17,20 +40,13 @@ fn main(rt: HostRuntime) -> anyhow::Result<()> {
 fn run(rt: &HostRuntime) -> anyhow::Result<()> {
     let mut input = Vec::new(rt.alloc());
     rt.stdin().read_to_end(&mut input)?;
-    let mut lines = Lines::new(input.as_slice());
     let mut plan = Plan::smallest();
-    let mut number: u64 = 0;
-    let mut accepted: u64 = 0;
-    let mut refused: u64 = 0;
-    while let Some(line) = lines.next_line() {
-        number = number.saturating_add(1);
+    let mut counts = Counts::default();
+    for (before, line) in Lines::new(&input).enumerate() {
         let judgement = judge(rt.alloc(), line, &mut plan)?;
-        match judgement {
-            Judgement::Accepted { .. } => accepted = accepted.saturating_add(1),
-            _ => refused = refused.saturating_add(1),
-        }
-        report_line(rt, number, judgement, &plan)?;
+        counts.count(&judgement);
+        report_line(rt, before + 1, judgement, &plan)?;
     }
-    println!(rt; "{accepted} accepted, {refused} refused")?;
+    println!(rt; "{counts}")?;
     Ok(())
 }

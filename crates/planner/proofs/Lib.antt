@@ -1,1 +1,2 @@
+mod FrameDigits
 mod Tried

@@ -1,6 +1,8 @@
--- What a call's answer tells of the tables that it leaves.
-use Rattle.std.proofs.Common.{◌≡◌, ℕ, suc, ◌≤◌, Bool, true, false, leb, List, [], ◌∷◌, ◌++◌, length, take, Some, None, Ok, Err, Option, sym, refl, ap, ◌∙◌, append_assoc, arith}
+-- What a call's answer tells of the tables that it leaves, and an answer for want of a value of the value.
+use Rattle.std.proofs.Common.{◌≡◌, ℕ, suc, ◌≤◌, Bool, true, false, leb, List, [], ◌∷◌, ◌++◌, length, take, Some, None, Ok, Err, Option, sym, refl, ap, ◌∙◌, append_assoc}
 use Rattle.std.proofs.lemmas.Bool.{and_parts, leb-true}
+use Rattle.std.specs.Option.{ok_or}
+use Rattle.std.proofs.lemmas.List.{append-nil}
 use Rattle.schedule.specs.declared.refusal.Refusal.{Refusal}
 use Rattle.schedule.specs.Verdict.{earliest}
 use Rattle.machine.specs.declared.tables.Delivery.{Delivery}
@@ -8,8 +10,8 @@ use Rattle.machine.specs.Calls.{Answer, Outcome, accepted, answer, answer_to, ch
 use Rattle.machine.specs.Machine.{Machine, owner, routers}
 use Rattle.machine.specs.Moves.{handed_over}
 use Rattle.machine.specs.Tables.{Tables, sound}
-use Rattle.runner.specs.Choices.{Form}
-use Rattle.runner.specs.Steps.{after_step, behind, delivery_lines, injected, left, refusal_line, refusal_lines, router_line, run_steps, step_answer, stepped}
+use Rattle.frames.specs.Payloads.{Form}
+use Rattle.runner.specs.Steps.{Left, after_step, behind, delivery_lines, injected, left, refusal_line, refusal_lines, router_line, run_steps, step_answer, stepped}
 use Rattle.runner.specs.Told.{table_lines}
 use Rattle.runner.proofs.Lines.{told_lines}
 
@@ -25,15 +27,19 @@ module _ {P : Type 0} where
       w ∙ ap (λ (o : Outcome P). out ++ refusal_lines o.answer) f in
       λ i. left (f i).tables (g i)
 
+pub there : {X : Type 0} (o : Option X) (x : X) (why : Refusal) → Ok x ≡ ok_or o why → o ≡ Some x
+there None x why e = absurd (cc)
+there (Some y) x why e = cc
+
 answered_ok : (o : Option Refusal) (cycle n : ℕ) → answer o cycle ≡ Ok n → (o ≡ None) × (n ≡ cycle)
 unfolding answer
 answered_ok None cycle n e = (refl, cc)
-answered_ok (Some why) cycle n e = absurd (let z : ◌≡◌ {A = ℕ} 0 1 = cc in omega arith)
+answered_ok (Some why) cycle n e = absurd (cc)
 
 first_passed : (b : Bool) (why : Refusal) (rest : List (Option Refusal)) → earliest (check b why ∷ rest) ≡ None → b ≡ true
 unfolding check
 first_passed true why rest e = refl
-first_passed false why rest e = absurd (let z : ◌≡◌ {A = ℕ} 0 1 = cc in omega arith)
+first_passed false why rest e = absurd (cc)
 
 module _ {P : Type 0} (m : Machine) (t : Tables P) (ds : List Delivery) (ps : List P) where
   taken_by : (a : Answer) (n : ℕ) (o : Outcome P) → answer_to m t (step ds ps) ≡ a → o.answer ≡ Ok n
@@ -41,13 +47,13 @@ module _ {P : Type 0} (m : Machine) (t : Tables P) (ds : List Delivery) (ps : Li
   unfolding if_accepted accepted unchanged
   taken_by (Ok k) n o h r e = (sym (ap (λ (x : Outcome P). x.answer) e) ∙ r, e)
   taken_by (Err why) n o h r e =
-      absurd (let f : o.answer ≡ Err why = ap (λ (x : Outcome P). x.answer) e in let z : ◌≡◌ {A = ℕ} 0 1 = cc in omega arith)
+      absurd (let f : o.answer ≡ Err why = ap (λ (x : Outcome P). x.answer) e in cc)
 
   refused_by : (a : Answer) (why : Refusal) (o : Outcome P) → answer_to m t (step ds ps) ≡ a → o.answer ≡ Err why
       → o ≡ if_accepted a (accepted m t (step ds ps)) (unchanged a t (step ds ps)) → (answer_to m t (step ds ps) ≡ Err why) × (o.tables ≡ t)
   unfolding if_accepted accepted unchanged
   refused_by (Ok k) why o h r e =
-      absurd (let f : o.answer ≡ Ok k = ap (λ (x : Outcome P). x.answer) e ∙ h in let z : ◌≡◌ {A = ℕ} 0 1 = cc in omega arith)
+      absurd (let f : o.answer ≡ Ok k = ap (λ (x : Outcome P). x.answer) e ∙ h in cc)
   refused_by (Err other) why o h r e = (h ∙ sym (ap (λ (x : Outcome P). x.answer) e) ∙ r, ap (λ (x : Outcome P). x.tables) e)
 
   pub step_taken : (n : ℕ) (o : Outcome P) → o.answer ≡ Ok n → o ≡ outcome m t (step ds ps)
@@ -78,13 +84,13 @@ module _ {P : Type 0} (m : Machine) (t : Tables P) (ds : List Delivery) (ps : Li
       let both = and_parts (leb (routers m) (length ds)) (leb (routers m) (length ps)) two in
       (leb-true (routers m) (length ds) both.0, leb-true (routers m) (length ps) both.1)
 
-  -- a step that was taken, and its lines
-  pub one_step : (form : Form P) (k n : ℕ) (after : Tables P) (ds' : List Delivery) (ps' : List P) (out out' : List ℕ)
-      → length ds ≡ 16 → length ps ≡ 16 → outcome_of (Ok n) after ds' ps' ≡ outcome m t (step ds ps)
+  -- a step that was taken, and its lines, where the steps that are left come to `all`
+  pub one_step : (form : Form P) (count k n : ℕ) (after : Tables P) (ds' : List Delivery) (ps' : List P) (out out' : List ℕ) (all : Left (Tables P))
+      → count ≡ suc k → length ds ≡ 16 → length ps ≡ 16 → outcome_of (Ok n) after ds' ps' ≡ outcome m t (step ds ps)
       → out' ≡ out ++ table_lines form n 0 (take (routers m) ds') (take (routers m) ps')
-      → behind out' (run_steps form m k after) ≡ behind out (run_steps form m (suc k) t)
+      → behind out (run_steps form m count t) ≡ all → behind out' (run_steps form m k after) ≡ all
   unfolding run_steps delivery_lines router_line stepped accepted
-  one_step form k n after ds' ps' out out' ld lp e w =
+  one_step form count k n after ds' ps' out out' all more ld lp e w inv =
       let r = step_taken n (outcome_of (Ok n) after ds' ps') refl e in
       let ran = ran_cycle n r.0 in
       let few = few_routers n r.0 in
@@ -99,12 +105,20 @@ module _ {P : Type 0} (m : Machine) (t : Tables P) (ds : List Delivery) (ps : Li
       ap (λ (x : Tables P). behind out' (run_steps form m k x)) left_is
       ∙ (λ i. left rest.state (printed i))
       ∙ ap (λ (a : Answer). behind out (after_step form m t a rest)) (sym same)
+      ∙ ap (λ (c : ℕ). behind out (run_steps form m c t)) (sym more) ∙ inv
 
-  pub no_step : (form : Form P) (k : ℕ) (why : Refusal) (after : Tables P) (ds' : List Delivery) (ps' : List P) (out out' : List ℕ)
-      → length ds ≡ 16 → length ps ≡ 16 → outcome_of (Err why) after ds' ps' ≡ outcome m t (step ds ps) → out' ≡ out ++ refusal_line why
-      → left after out' ≡ behind out (run_steps form m (suc k) t)
+  pub no_step : (form : Form P) (count k : ℕ) (why : Refusal) (after : Tables P) (ds' : List Delivery) (ps' : List P) (out out' : List ℕ) (all : Left (Tables P))
+      → count ≡ suc k → length ds ≡ 16 → length ps ≡ 16 → outcome_of (Err why) after ds' ps' ≡ outcome m t (step ds ps) → out' ≡ out ++ refusal_line why
+      → behind out (run_steps form m count t) ≡ all → left after out' ≡ all
   unfolding run_steps
-  no_step form k why after ds' ps' out out' ld lp e w =
+  no_step form count k why after ds' ps' out out' all more ld lp e w inv =
       let r = step_refused why (outcome_of (Err why) after ds' ps') refl e in
       let same : step_answer m t ≡ Err why = sym (same_answer ld lp) ∙ r.0 in
       (λ i. left (r.1 i) (w i)) ∙ ap (λ (a : Answer). behind out (after_step form m t a (run_steps form m k (stepped m t)))) (sym same)
+      ∙ ap (λ (c : ℕ). behind out (run_steps form m c t)) (sym more) ∙ inv
+
+  pub no_step_left : (form : Form P) (count : ℕ) (out : List ℕ) (all : Left (Tables P)) → count ≡ 0
+      → behind out (run_steps form m count t) ≡ all → left t out ≡ all
+  unfolding run_steps
+  no_step_left form count out all none inv =
+      (λ i. left t (sym (append-nil out) i)) ∙ ap (λ (c : ℕ). behind out (run_steps form m c t)) (sym none) ∙ inv

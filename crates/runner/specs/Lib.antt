@@ -1,4 +1,3 @@
-pub mod Choices
 pub mod Running
 pub mod Steps
 pub mod Printed

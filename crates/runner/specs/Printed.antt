@@ -1,23 +1,22 @@
 -- What the program prints for a block of input: frame by frame, deliveries and refusals.
 use Rattle.std.specs.Prelude.{ℕ, cond, List, [], ◌∷◌, ◌++◌, length, Some, None, Option, nat_lt}
+use Rattle.std.specs.Option.{option_map}
 use Rattle.schedule.specs.declared.refusal.Refusal.{Refusal}
-use Rattle.schedule.specs.declared.refusal.Refusal.TheVariants.{NotAFrame, SizeOutOfLimits}
-use Rattle.schedule.specs.declared.sizes.Size.TheVariants.{Width, Domains}
+use Rattle.schedule.specs.declared.refusal.Refusal.TheVariants.{NotAFrame}
 use Rattle.schedule.specs.declared.sizes.Sizes.{Sizes}
 use Rattle.schedule.specs.Built.{built}
-use Rattle.schedule.specs.Timetable.{Timetable, timetable, routers}
+use Rattle.schedule.specs.Timetable.{Timetable, timetable}
 use Rattle.schedule.specs.Verdict.{earliest, verdict}
-use Rattle.frames.specs.declared.choices.ArbiterKind.{ArbiterKind}
-use Rattle.frames.specs.declared.choices.RouteKind.{RouteKind}
 use Rattle.frames.specs.declared.choices.PayloadKind.{PayloadKind}
 use Rattle.frames.specs.declared.choices.PayloadKind.TheVariants.{Word, Record}
 use Rattle.frames.specs.Frames.{PlanValue, FrameValue, plan, inject, steps, decoded}
 use Rattle.frames.specs.Hex.{bytes_of}
+use Rattle.frames.specs.Limits.{excess, refusal_of}
 use Rattle.frames.specs.Lines.{LineText, ended, unended, all_lines}
 use Rattle.frames.specs.declared.payload.Collection.{Collection}
 use Rattle.machine.specs.Calls.{opening}
 use Rattle.machine.specs.Tables.{Tables}
-use Rattle.runner.specs.Choices.{word_form, record_form}
+use Rattle.frames.specs.Payloads.{word_form, record_form}
 use Rattle.runner.specs.Running.{Running, at_first, machine_run, record_tables, with_records, with_words, word_tables}
 use Rattle.runner.specs.Steps.{Left, left, injected, refusal_line, run_steps}
 
@@ -30,13 +29,7 @@ records_back s l = left (with_records s l.state) l.printed
 
 -- the program runs at most 16 routers and 4 domains; too many routers are told as too many columns
 abbrev pub program_check : Sizes → Option Refusal
-program_check sizes =
-    cond (nat_lt 16 (routers sizes)) (Some (SizeOutOfLimits Width))
-    (cond (nat_lt 4 sizes.domains) (Some (SizeOutOfLimits Domains)) None)
-
-abbrev pub plan_named : Sizes → ArbiterKind → RouteKind → PayloadKind → List ℕ → PlanValue
-plan_named sizes arbiter route payload slots =
-    record { sizes = sizes; arbiter = arbiter; route = route; payload = payload; slots = slots }
+program_check sizes = option_map refusal_of (excess sizes)
 
 abbrev pub built_timetable : PlanValue → Timetable
 built_timetable p = timetable p.sizes p.slots (built p.sizes (length p.slots))

@@ -13,8 +13,9 @@ use Rattle.machine.specs.declared.tables.Place.{Place}
 use Rattle.machine.specs.declared.tables.Queue.{Queue}
 use Rattle.machine.specs.Machine.{Machine}
 use Rattle.machine.specs.Tables.{Tables, no_packets, tables}
+use Rattle.runner.specs.declared.state.MeshTables.{MeshTables}
 use Rattle.runner.specs.declared.state.RunningMesh.{RunningMesh}
-use Rattle.runner.specs.Choices.{arbiter_meant, route_meant}
+use Rattle.frames.specs.Chosen.{arbiter_meant, route_meant}
 
 -- payloads of each kind have a table of their own; that of the mesh's kind is in use
 pub record Running : Type 0 where
@@ -33,19 +34,23 @@ pub record Running : Type 0 where
 abbrev pub running : RunningMesh → Running
 running mesh = record {
   timetable = timetable_of mesh.plan;
-  arbiter = mesh.arbiter;
-  route = mesh.route;
-  payload = mesh.payload;
-  cycle = mesh.cycle;
-  queues = mesh.queues;
-  places = mesh.places;
-  words = mesh.words;
-  word_payloads = mesh.word_payloads;
-  record_payloads = mesh.record_payloads;
+  arbiter = mesh.choices.arbiter;
+  route = mesh.choices.route;
+  payload = mesh.choices.payload;
+  cycle = mesh.tables.cycle;
+  queues = mesh.tables.queues;
+  places = mesh.tables.places;
+  words = mesh.tables.words;
+  word_payloads = mesh.words.held;
+  record_payloads = mesh.records.held;
 }
 
 abbrev pub machine_run : Running → Machine
 machine_run s = record { timetable = s.timetable; choose = arbiter_meant s.arbiter; route = route_meant s.route }
+
+-- what the program lends to a call: its tables, and payloads of one kind
+abbrev pub lent : {P : Type 0} → MeshTables → List P → Tables P
+lent mesh payloads = tables mesh.cycle mesh.queues mesh.places payloads mesh.words
 
 -- the lent tables with the payloads of one kind, and the mesh with such tables put back
 abbrev pub word_tables : Running → Tables ℕ

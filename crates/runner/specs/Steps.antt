@@ -9,7 +9,7 @@ use Rattle.machine.specs.Machine.{Machine, owner, routers}
 use Rattle.machine.specs.Moves.{cycle_moves, handed_over, moved}
 use Rattle.machine.specs.Packets.{Packet}
 use Rattle.machine.specs.Tables.{Tables, sound}
-use Rattle.runner.specs.Choices.{Form}
+use Rattle.frames.specs.Payloads.{Form}
 
 -- what is left, and what was printed on the way
 pub record Left (X : Type 0) : Type 0 where

@@ -3,7 +3,7 @@ use Rattle.std.specs.Prelude.{ℕ, ◌+◌, cond, List, [], ◌∷◌, ◌++◌,
 use Rattle.frames.specs.Hex.{hex_line}
 use Rattle.frames.specs.Output.{delivery_bytes}
 use Rattle.machine.specs.declared.tables.Delivery.{Delivery}
-use Rattle.runner.specs.Choices.{Form}
+use Rattle.frames.specs.Payloads.{Form}
 
 -- a record with mark 1 has a line
 unfoldable pub table_line : {P : Type 0} → Form P → ℕ → ℕ → Delivery → P → List ℕ

@@ -2,7 +2,6 @@
 #![tactic(auto)]
 
 mod handling;
-mod payload;
 pub mod run;
 mod state;
 mod stepping;

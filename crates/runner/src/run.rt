@@ -12,6 +12,7 @@ use std::alloc::{AllocError, Global};
 const MOST_BYTES: usize = 32768;
 
 // Runs the frames of the input on a mesh, and answers the lines that are to be printed.
+#[tactic(auto, unfolding(crate::specs::Printed::printed))]
 pub fn run(heap: Global, input: &[u8]) -> Result<Vec<u8>, AllocError>
     ensures { IfOk result (λ out. out.items ≡ printed input.now) }
 {
@@ -21,8 +22,7 @@ pub fn run(heap: Global, input: &[u8]) -> Result<Vec<u8>, AllocError>
         return Ok(out);
     }
     let mut mesh = RunningMesh::at_first();
-    let mut lines = Lines::new(input);
-    while let Some(line) = lines.next_line() {
+    for line in Lines::new(input) {
         mesh.line(heap, &mut out, line)?;
     }
     Ok(out)

@@ -1,22 +1,31 @@
 // What the program holds of the mesh that it runs.
-use frames::choices::{ArbiterKind, PayloadKind, RouteKind};
+use frames::choices::Choices;
 use frames::payload::Collection;
 use machine::tables::{Place, Queue};
 use schedule::plan::Plan;
 
-// Tables for 16 routers and 4 domains, with payloads of both kinds. What a step delivers is read before the next one.
+// The cycle, and the tables that the calls are lent beside payloads.
 #[derive(Drop)]
-pub(crate) struct RunningMesh {
-    pub(crate) plan: Plan,
-    pub(crate) arbiter: ArbiterKind,
-    pub(crate) route: RouteKind,
-    pub(crate) payload: PayloadKind,
+pub(crate) struct MeshTables {
     pub(crate) cycle: u32,
     pub(crate) queues: [Queue; 320],
     pub(crate) places: [Place; 1280],
     pub(crate) words: [u32; 320],
-    pub(crate) word_payloads: [u32; 1280],
-    pub(crate) record_payloads: [Collection; 1280],
-    pub(crate) delivered_words: [u32; 16],
-    pub(crate) delivered_records: [Collection; 16],
+}
+
+// Payloads of one kind: those of the places, and those that a step delivers, which are read before the next one.
+#[derive(Drop)]
+pub(crate) struct PayloadTables<P> {
+    pub(crate) held: [P; 1280],
+    pub(crate) delivered: [P; 16],
+}
+
+// Tables for 16 routers and 4 domains, with payloads of both kinds. They are arrays, since the program's memory is fixed.
+#[derive(Drop)]
+pub(crate) struct RunningMesh {
+    pub(crate) plan: Plan,
+    pub(crate) choices: Choices,
+    pub(crate) tables: MeshTables,
+    pub(crate) words: PayloadTables<u32>,
+    pub(crate) records: PayloadTables<Collection>,
 }

@@ -1,43 +1,29 @@
 // The calls on a mesh, tried on the sample's plan and at the edges.
-use machine::tables::{Delivery, Place, Queue};
-use mesh::inject::inject;
-use mesh::open::open;
-use mesh::room::room;
-use mesh::step::step;
+use super::bench::{Bench, Filling};
+use machine::tables::{Delivery, Queue};
+use mesh::needed::{deliveries_needed, places_needed, queues_needed};
 use rules::fixed::Fixed;
 use rules::rotating::Rotating;
-use rules::route::ColumnsFirst;
 use schedule::plan::Plan;
-use schedule::refusal::Refusal;
 use schedule::sizes::Sizes;
+use std::test::Fail;
 
-const NO_PACKETS: Queue = Queue { first: 3, count: 9 };
+const UNSOUND: Queue = Queue { first: 3, count: 9 };
 
-const NO_PLACE: Place = Place {
-    destination: 77,
-    source: 88,
-    ready: 99,
-};
-
-const NO_DELIVERY: Delivery = Delivery {
-    mark: 5,
-    domain: 5,
-    source: 5,
-};
-
-// What was collected, as a payload.
-#[derive(Clone, Copy)]
+// What was collected, as a payload of a kind of the tests' own: the calls stand on no frames.
+#[derive(Clone, Copy, Debug, PartialEq, Eq)]
 struct Collection {
     tank: u16,
     litres: u16,
 }
 
-// The number of an answer's refusal, 0 where it is accepted.
-fn refusal_number<T: Drop>(answer: Result<T, Refusal>) -> u8 {
-    match answer {
-        Ok(_) => 0,
-        Err(refusal) => refusal.number(),
-    }
+// How many queue records, places and delivery records a plan needs.
+fn needed(plan: &Plan) -> [usize; 3] {
+    [
+        queues_needed(plan),
+        places_needed(plan),
+        deliveries_needed(plan),
+    ]
 }
 
 // Two routers in a row, two domains, queues of two places, hop 1, slots 0 and 1.
@@ -54,246 +40,75 @@ fn sample_plan() -> Plan {
     plan
 }
 
-#[test]
-fn sample_runs(rt: HostRuntime) {
-    let plan = sample_plan();
-    let mut cycle = 7;
-    let mut queues = [NO_PACKETS; 20];
-    let mut places = [NO_PLACE; 40];
-    let mut payloads = [9u32; 40];
-    let mut words = [6u32; 20];
-    let mut deliveries = [NO_DELIVERY; 2];
-    let mut delivered = [0u32; 2];
-    assert_eq!(rt;
-        refusal_number(open(
-            &plan,
-            &mut cycle,
-            &mut queues,
-            &mut places,
-            &mut payloads,
-            &mut words,
-        )),
-        0
-    );
-    assert_eq!(rt;
-        refusal_number(inject(
-            &plan,
-            cycle,
-            &mut queues,
-            &mut places,
-            &mut payloads,
-            &words,
-            0,
-            0,
-            1,
-            300,
-        )),
-        0
-    );
-    assert_eq!(rt;
-        refusal_number(inject(
-            &plan,
-            cycle,
-            &mut queues,
-            &mut places,
-            &mut payloads,
-            &words,
-            0,
-            1,
-            1,
-            258,
-        )),
-        0
-    );
-    assert_eq!(rt;
-        refusal_number(inject(
-            &plan,
-            cycle,
-            &mut queues,
-            &mut places,
-            &mut payloads,
-            &words,
-            0,
-            2,
-            1,
-            0,
-        )),
-        11
-    );
-    assert_eq!(rt;
-        refusal_number(step(
-            &plan,
-            &Rotating,
-            &ColumnsFirst,
-            &mut cycle,
-            &mut queues,
-            &mut places,
-            &mut payloads,
-            &mut words,
-            &mut deliveries,
-            &mut delivered,
-        )),
-        0
-    );
-    assert_eq!(rt; deliveries[0].mark, 0);
-    assert_eq!(rt; deliveries[1].mark, 0);
-    assert_eq!(rt;
-        refusal_number(step(
-            &plan,
-            &Rotating,
-            &ColumnsFirst,
-            &mut cycle,
-            &mut queues,
-            &mut places,
-            &mut payloads,
-            &mut words,
-            &mut deliveries,
-            &mut delivered,
-        )),
-        0
-    );
-    assert_eq!(rt; deliveries[1].mark, 1);
-    assert_eq!(rt; deliveries[1].domain, 0);
-    assert_eq!(rt; deliveries[1].source, 0);
-    assert_eq!(rt; delivered[1], 300);
-    assert_eq!(rt;
-        refusal_number(step(
-            &plan,
-            &Rotating,
-            &ColumnsFirst,
-            &mut cycle,
-            &mut queues,
-            &mut places,
-            &mut payloads,
-            &mut words,
-            &mut deliveries,
-            &mut delivered,
-        )),
-        0
-    );
-    assert_eq!(rt; deliveries[1].domain, 1);
-    assert_eq!(rt; delivered[1], 258);
-    assert_eq!(rt; cycle, 3);
+// The record of a domain's packet that came from router 0.
+fn from_first(domain: u8) -> Delivery {
+    Delivery {
+        mark: 1,
+        domain,
+        source: 0,
+    }
 }
 
 #[test]
-fn records_are_carried_and_a_full_queue_refuses(rt: HostRuntime) {
-    let plan = Plan::smallest();
+fn sample_runs(rt: HostRuntime) -> Result<(), Fail> {
+    let filling = Filling {
+        queue: UNSOUND,
+        payload: 9u32,
+        word: 6,
+    };
+    let plan = sample_plan();
+    assert_eq!(rt; needed(&plan), [20, 40, 2]);
+    let mut bench = Bench::new(rt.alloc(), plan, 7, filling)?;
+    assert_eq!(rt; bench.open(), Ok(()));
+    assert_eq!(rt; bench.inject(0, 0, 1, 300), Ok(1));
+    assert_eq!(rt; bench.inject(0, 1, 1, 258), Ok(1));
+    assert_eq!(rt; bench.inject(0, 2, 1, 0), Err(11));
+    assert_eq!(rt; bench.step(&Rotating), Ok(0));
+    assert_eq!(rt; bench.told(0), Some(Delivery::default()));
+    assert_eq!(rt; bench.told(1), Some(Delivery::default()));
+    assert_eq!(rt; bench.step(&Rotating), Ok(1));
+    assert_eq!(rt; bench.told(1), Some(from_first(0)));
+    assert_eq!(rt; bench.delivered(1), Some(300));
+    assert_eq!(rt; bench.step(&Rotating), Ok(2));
+    assert_eq!(rt; bench.told(1), Some(from_first(1)));
+    assert_eq!(rt; bench.delivered(1), Some(258));
+    assert_eq!(rt; bench.cycle, 3);
+    Ok(())
+}
+
+#[test]
+fn records_are_carried_and_a_full_queue_refuses(rt: HostRuntime) -> Result<(), Fail> {
     let milk = Collection {
         tank: 2,
         litres: 450,
     };
-    let mut cycle = 0;
-    let mut queues = [NO_PACKETS; 5];
-    let mut places = [NO_PLACE; 5];
-    let mut payloads = [Collection { tank: 0, litres: 0 }; 5];
-    let mut words = [1u32; 5];
-    let mut deliveries = [NO_DELIVERY; 1];
-    let mut delivered = [Collection { tank: 0, litres: 0 }; 1];
-    assert_eq!(rt;
-        refusal_number(open(
-            &plan,
-            &mut cycle,
-            &mut queues,
-            &mut places,
-            &mut payloads,
-            &mut words,
-        )),
-        0
-    );
-    assert_eq!(rt;
-        room(&plan, cycle, &queues, &places, &payloads, &words, 0, 0).ok(),
-        Some(1)
-    );
-    assert_eq!(rt;
-        refusal_number(inject(
-            &plan,
-            cycle,
-            &mut queues,
-            &mut places,
-            &mut payloads,
-            &words,
-            0,
-            0,
-            0,
-            milk,
-        )),
-        0
-    );
-    assert_eq!(rt;
-        refusal_number(inject(
-            &plan,
-            cycle,
-            &mut queues,
-            &mut places,
-            &mut payloads,
-            &words,
-            0,
-            0,
-            0,
-            milk,
-        )),
-        12
-    );
-    assert_eq!(rt;
-        refusal_number(step(
-            &plan,
-            &Fixed,
-            &ColumnsFirst,
-            &mut cycle,
-            &mut queues,
-            &mut places,
-            &mut payloads,
-            &mut words,
-            &mut deliveries,
-            &mut delivered,
-        )),
-        0
-    );
-    assert_eq!(rt; deliveries[0].mark, 1);
-    assert_eq!(rt; delivered[0].tank, 2);
-    assert_eq!(rt; delivered[0].litres, 450);
+    let filling = Filling {
+        queue: UNSOUND,
+        payload: Collection { tank: 0, litres: 0 },
+        word: 1,
+    };
+    let mut bench = Bench::new(rt.alloc(), Plan::smallest(), 0, filling)?;
+    assert_eq!(rt; needed(&Plan::smallest()), [5, 5, 1]);
+    assert_eq!(rt; bench.open(), Ok(()));
+    assert_eq!(rt; bench.room(0, 0), Ok(1));
+    assert_eq!(rt; bench.inject(0, 0, 0, milk), Ok(1));
+    assert_eq!(rt; bench.inject(0, 0, 0, milk), Err(12));
+    assert_eq!(rt; bench.step(&Fixed), Ok(0));
+    assert_eq!(rt; bench.told(0), Some(from_first(0)));
+    assert_eq!(rt; bench.delivered(0), Some(milk));
+    Ok(())
 }
 
 #[test]
-fn the_last_cycle_is_refused(rt: HostRuntime) {
-    let plan = Plan::smallest();
-    let mut cycle = 4294967294;
-    let mut queues = [Queue { first: 0, count: 0 }; 5];
-    let mut places = [NO_PLACE; 5];
-    let mut payloads = [0u32; 5];
-    let mut words = [0u32; 5];
-    let mut deliveries = [NO_DELIVERY; 1];
-    let mut delivered = [0u32; 1];
-    assert_eq!(rt;
-        refusal_number(step(
-            &plan,
-            &Fixed,
-            &ColumnsFirst,
-            &mut cycle,
-            &mut queues,
-            &mut places,
-            &mut payloads,
-            &mut words,
-            &mut deliveries,
-            &mut delivered,
-        )),
-        0
-    );
-    assert_eq!(rt;
-        refusal_number(step(
-            &plan,
-            &Fixed,
-            &ColumnsFirst,
-            &mut cycle,
-            &mut queues,
-            &mut places,
-            &mut payloads,
-            &mut words,
-            &mut deliveries,
-            &mut delivered,
-        )),
-        13
-    );
-    assert_eq!(rt; cycle, 4294967295);
+fn the_last_cycle_is_refused(rt: HostRuntime) -> Result<(), Fail> {
+    let filling = Filling {
+        queue: Queue::default(),
+        payload: 0u32,
+        word: 0,
+    };
+    let mut bench = Bench::new(rt.alloc(), Plan::smallest(), 4294967294, filling)?;
+    assert_eq!(rt; bench.step(&Fixed), Ok(4294967294));
+    assert_eq!(rt; bench.step(&Fixed), Err(13));
+    assert_eq!(rt; bench.cycle, 4294967295);
+    Ok(())
 }

@@ -31,7 +31,7 @@ def facts():
     found = collections.defaultdict(set)
     for name, _, clauses in functions():
         for fact in re.findall(r'requires (?:\w+ )?\{([^}]*)\}', clauses):
-            found[' '.join(re.sub(r'\.(old|now|new)', '', fact).split())].add(name)
+            found[' '.join(re.sub(r'\bself\.(?:now\.|old\.|new\.)?|\.(?:old|now|new)\b', '', fact).split())].add(name)
     return [(f, n) for f, n in found.items() if len(n) >= 3]
 
 

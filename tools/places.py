@@ -15,8 +15,8 @@ LINES = {
     '3 loops over a range, and while': r'\s*(?:for [^;]* in [^;]*\.\.|while |loop )',
     '4 conversions and words by hand':
         r'.*\bfn (?:number|from_number|to_bytes|from_bytes|[a-z]+_word|(?:word|collection)_(?:bytes|from))\b',
-    '6 arrays of a fixed length': r'.*: (?:&mut |&)?\[[A-Za-z0-9]+; (?:[0-9]{2,}|N)\]',
-    '7 a choice of what to run': r'.*\bmatch (?:arbiter|route|self\.payload|plan\.sizes\.depth) \{',
+    '6 arrays of a fixed length': r'.*: (?:&mut |&)?\[[A-Za-z0-9<>]+; (?:[0-9]{2,}|N)\]',
+    '7 a choice of what to run': r'.*\bmatch (?:self\.|plan\.|sizes\.|choices\.)*(?:arbiter|route|payload|depth) \{',
 }
 
 

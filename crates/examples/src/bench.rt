@@ -43,7 +43,7 @@ pub(crate) struct Bench<P> {
     delivered: Vec<P>,
 }
 
-// An answer with the number of its refusal, by which the pages list them.
+// An answer with the number of its refusal: the tests' values are these numbers, by which the pages list the refusals.
 pub(crate) fn numbered<T: Drop>(answer: Result<T, Refusal>) -> Result<T, u8> {
     answer.map_err(|refusal| refusal.number())
 }

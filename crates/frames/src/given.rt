@@ -31,6 +31,7 @@ fn given_plan<'a>(bytes: &'a [u8]) -> Option<GivenPlan<'a>>
     let [kind, fields @ ..] = bytes else {
         return None;
     };
+    // the kind's first byte, as in `frame.rt`
     match *kind {
         6 => plan_fields(fields),
         _ => None,

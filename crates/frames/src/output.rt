@@ -3,7 +3,7 @@ ghost use Rattle.frames.specs.Output.{delivery_bytes, refusal_bytes};
 
 use schedule::refusal::Refusal;
 
-// A packet that reached its destination in a cycle.
+// A packet that reached its destination in a cycle, told field by field as the frame has it. A kind's first byte stands as it is, as in `frame.rt`.
 pub fn delivery_frame(cycle: u32, router: u8, domain: u8, source: u8, payload: [u8; 4]) -> [u8; 12]
     ensures { result ≡ delivery_bytes cycle router domain source payload }
 {

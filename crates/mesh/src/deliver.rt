@@ -8,6 +8,7 @@ use super::moves::Move;
 use machine::tables::Delivery;
 
 // Writes the delivery records of a cycle, and the payloads beside those with a mark. Each router has five ports, its own core's last.
+// The two tables are told one by one: callers lend records and payloads apart, each of a length of its own.
 pub(crate) fn deliver<P: Copy>(
     moves: &[Option<Move>],
     payloads: &[P],

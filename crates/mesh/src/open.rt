@@ -13,7 +13,7 @@ use schedule::plan::Plan;
 use schedule::refusal::Refusal;
 
 // Empties every queue and clears every word of a mesh, and puts it to cycle 0. What the places hold stays.
-// Every call is lent the tables one by one, since a caller keeps them where it likes.
+// The tables are lent one by one, a rule of the project: a caller keeps its own slices, and gives up to be changed only what changes.
 pub fn open<P: Copy>(
     plan: &Plan,
     cycle: &mut u32,

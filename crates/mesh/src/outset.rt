@@ -5,7 +5,8 @@ ghost use Rattle.mesh.specs.Heads.{Fit, queue_count};
 use machine::tables::{Place, Queue};
 use schedule::plan::Plan;
 
-// That a router, a port, a domain or a queue is the plan's stays a `requires` of each method: a number that knows it would have to carry the plan.
+// That a router, a port, a domain or a queue is the plan's stays a `requires` of each method and of the functions beside them: a number that
+// knows it would have to carry the plan.
 // It has five fields of `Lent` and not that struct itself, whose payloads no choice reads: it would be generic in them for nothing.
 #[derive(Drop)]
 pub(crate) struct Outset<'a, A, R> {

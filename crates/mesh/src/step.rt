@@ -34,7 +34,7 @@ impl<P: Copy> Lent<'_, P> {
 }
 
 // Runs one cycle, and answers which.
-// Every call is lent the tables one by one, since a caller keeps them where it likes.
+// The tables are lent one by one, a rule of the project: a caller keeps its own slices, and gives up to be changed only what changes.
 pub fn step<A: Arbiter, R: RouteRule, P: Copy>(
     plan: &Plan,
     arbiter: &A,

@@ -179,6 +179,7 @@ pub fn judge(heap: Global, line: Line<'_>, plan: &mut Plan) -> Result<Judgement,
         (λ j. left (judgement_value j) (timetable_of plan.new) ≡ judged (line_value line.entry) (timetable_of plan.old))
         (λ _. timetable_of plan.new ≡ timetable_of plan.old) }
 {
+    // as the runner does, but for what is answered
     let Line::Ended(text) = line else {
         return Ok(Err(Refusal::NotAFrame.into()));
     };

@@ -4,7 +4,7 @@ use frames::payload::Collection;
 use machine::tables::{Place, Queue};
 use schedule::plan::Plan;
 
-// The cycle, and the tables that the calls are lent beside payloads.
+// The cycle, and the tables that the calls are lent beside payloads. They are arrays, since the program's memory is fixed.
 #[derive(Drop)]
 pub(crate) struct MeshTables {
     pub(crate) cycle: u32,
@@ -13,14 +13,14 @@ pub(crate) struct MeshTables {
     pub(crate) words: [u32; 320],
 }
 
-// Payloads of one kind: those of the places, and those that a step delivers, which are read before the next one.
+// Payloads of one kind: those of the places, and those that a step delivers, which are read before the next one. Arrays too.
 #[derive(Drop)]
 pub(crate) struct PayloadTables<P> {
     pub(crate) held: [P; 1280],
     pub(crate) delivered: [P; 16],
 }
 
-// Tables for 16 routers and 4 domains, with payloads of both kinds. They are arrays, since the program's memory is fixed.
+// Tables for 16 routers and 4 domains, with payloads of both kinds.
 #[derive(Drop)]
 pub(crate) struct RunningMesh {
     pub(crate) plan: Plan,

@@ -75,7 +75,7 @@ impl AllowedSizes {
         }
     }
 
-    // The router on a side of another, where the mesh has one there.
+    // The router on a side of another, where the mesh has one there. The side is a number, as callers of a plan name it.
     pub(crate) fn neighbour(self, router: u8, side: u8) -> Option<u8>
         requires { router < router_count self.sizes }
         ensures is { result ≡ neighbour_of self.sizes.width self.sizes.height router side }

@@ -89,7 +89,8 @@ impl Plan {
         Some(longest)
     }
 
-    // The cycles from slot k to the domain's next slot, the list taken as a ring; one more than the list has slots where none names the domain.
+    // The cycles from slot k to the domain's next slot, the list taken as a ring; one more than the list has slots where none
+    // names the domain: a number and no Option, since the definition has it so.
     fn until_next(&self, domain: u8, k: usize) -> u8
         requires { k < self.now.period }
         ensures { result ≡ until_next_of (take self.now.period self.now.slots) domain k }

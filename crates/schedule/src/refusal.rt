@@ -62,7 +62,7 @@ impl Refusal {
     }
 }
 
-// A port, which is printed as the side that it is on.
+// A port, which is printed as the side that it is on; one past the last is printed as the last, as the definition has it.
 #[derive(Clone, Copy)]
 struct PortOn(u8);
 

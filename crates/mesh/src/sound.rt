@@ -85,7 +85,8 @@ impl<P: Copy> Lent<'_, P> {
     }
 
     // Whether every queue is sound. That the tables are long enough the caller has just tested: it is asked here and above.
-    // Each depth has code of its own, in which the loop over the places of a queue has a fixed length: that is faster.
+    // Each depth has code of its own, in which the loop over the places of a queue has a fixed length: only a `match` makes a number that is
+    // known when it runs a const argument.
     pub(crate) fn sound(&self) -> bool
         requires queues_in { queue_count self.now.plan.now ≤ length self.now.queues.now }
         requires long { queue_count self.now.plan.now * self.now.plan.now.sizes.depth ≤ length self.now.places.now }

@@ -5,11 +5,12 @@ ghost use Rattle.frames.specs.Back.{record_bytes_back, records_back, word_bytes_
 // What a packet carries, as the four payload bytes of a frame.
 pub trait Payload: Copy {
     ghost form: { Form Self };
-    // the payloads that the type holds
+    // the payloads that the type holds: `to_bytes` shows it of each that there is
     ghost fits: { Self → Type 0 };
 
     fn to_bytes(self) -> [u8; 4]
-        ensures { result ≡ form.bytes self };
+        ensures bytes { result ≡ form.bytes self }
+        ensures fits { fits self };
 
     fn from_bytes(bytes: [u8; 4]) -> Self
         ensures { result ≡ form.value bytes };

@@ -6,7 +6,7 @@ use mesh::open::open;
 use mesh::room::room;
 use mesh::step::step;
 use rules::arbiter::Arbiter;
-use rules::route::ColumnsFirst;
+use rules::route::{ColumnsFirst, RouteRule};
 use schedule::plan::Plan;
 use schedule::refusal::Refusal;
 use std::alloc::{AllocError, Global};
@@ -117,10 +117,18 @@ impl<P: Copy> Bench<P> {
 
     // A step by columns first.
     pub(crate) fn step<A: Arbiter>(&mut self, arbiter: &A) -> Result<u32, u8> {
+        self.step_by(arbiter, &ColumnsFirst)
+    }
+
+    pub(crate) fn step_by<A: Arbiter, R: RouteRule>(
+        &mut self,
+        arbiter: &A,
+        rule: &R,
+    ) -> Result<u32, u8> {
         numbered(step(
             &self.plan,
             arbiter,
-            &ColumnsFirst,
+            rule,
             &mut self.cycle,
             &mut self.queues,
             &mut self.places,

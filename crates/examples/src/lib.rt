@@ -5,6 +5,8 @@
 mod bench;
 #[cfg(test)]
 mod calls;
+#[cfg(test)]
+mod own_rule;
 pub mod proved;
 #[cfg(test)]
 mod tests;

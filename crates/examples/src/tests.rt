@@ -70,8 +70,8 @@ fn waves_that_stand_still_break(rt: HostRuntime) {
 fn routes_begin_along_their_axis(rt: HostRuntime) {
     let corner = Position { column: 0, row: 0 };
     let goal = Position { column: 2, row: 1 };
-    assert_eq!(rt; u8::from(ColumnsFirst.side(corner, goal)), 0);
-    assert_eq!(rt; u8::from(RowsFirst.side(corner, goal)), 2);
+    assert_eq!(rt; ColumnsFirst.side(corner, goal), 0);
+    assert_eq!(rt; RowsFirst.side(corner, goal), 2);
 }
 
 #[test]

@@ -1,8 +1,8 @@
 -- How a block's lines are found: by the place of the first line feed, one line after the other.
-use Rattle.std.proofs.Common.{◌≡◌, ℕ, suc, ◌+◌, ◌<◌, ◌≤◌, Bool, true, false, cond, eqb, ltb, not, ◌⊎◌, List, [], ◌∷◌, ◌++◌, length, take, drop, Some, None, Option, sym, refl, ap, ◌∙◌, subst, inl, inr, arith, MatchOption}
+use Rattle.std.proofs.Common.{◌≡◌, ℕ, suc, ◌+◌, ◌<◌, ◌≤◌, Bool, true, false, cond, eqb, ltb, not, ◌⊎◌, List, [], ◌∷◌, ◌++◌, length, take, drop, Some, None, Option, sym, refl, ap, ◌∙◌, subst, inl, inr, arith, MatchOption, ◌-◌}
 use Rattle.std.specs.List.{flat_map, position_or_len, AllByRecursion}
 use Rattle.std.specs.Option.{SomeIff, option_map}
-use Rattle.std.proofs.lemmas.List.{drop_all}
+use Rattle.std.proofs.lemmas.List.{drop_all, take_rest}
 use Rattle.std.proofs.lemmas.Bool.{cases_lt, cases_eq, cond-false, eq-eqb, ltb-false, ltb-true, ne_eqb}
 use Rattle.frames.specs.declared.lines.Line.{Line}
 use Rattle.frames.specs.Lines.{LineText, ended, unended, line_feed, feed_place, after_line, begun, line_value}
@@ -73,6 +73,14 @@ pub first_unended :
 first_unended [] h = refl
 first_unended (x ∷ xs) h =
     ap first (line_unended (x ∷ xs) h) ∙ sym (cond-false _ None _ (ne_eqb (suc (length xs)) 0 (λ e. omega arith)))
+
+-- after a line without a line feed nothing is left
+pub nothing_left :
+    (block : List ℕ) (place : ℕ) → place ≡ feed_place block → length block ≤ place
+    → take (length block - place) (drop place block) ≡ after_line block
+nothing_left block place e h =
+    let past : length block ≤ suc (feed_place block) = omega arith in
+    take_rest block place ∙ (drop_all place block h ∙ sym (drop_all (suc (feed_place block)) block past))
 
 walked_by : (block : List ℕ) (line : LineText) → all_lines block ≡ line ∷ all_lines (after_line block) → Walked block
 walked_by block line e =

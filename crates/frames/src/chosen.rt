@@ -8,7 +8,6 @@ use rules::order_list::OrderList;
 use rules::rotating::Rotating;
 use rules::route::{ColumnsFirst, RouteRule, RowsFirst};
 use schedule::geometry::Position;
-use schedule::side::Side;
 
 impl Arbiter for ArbiterKind {
     ghost bits = { arbiter_bits };
@@ -39,7 +38,7 @@ impl RouteRule for RouteKind {
 
     ghost routes = { route_routes };
 
-    fn side(&self, from: Position, to: Position) -> Side {
+    fn side(&self, from: Position, to: Position) -> u8 {
         match self {
             RouteKind::ColumnsFirst => ColumnsFirst.side(from, to),
             RouteKind::RowsFirst => RowsFirst.side(from, to),

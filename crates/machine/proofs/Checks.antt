@@ -1,11 +1,46 @@
 -- What the checks of a call tell of its answer, and the answer of them.
-use Rattle.std.proofs.Common.{◌≡◌, ℕ, ◌<◌, ◌≤◌, Bool, true, false, Ok, Err, refl, arith}
+use Rattle.std.proofs.Common.{◌≡◌, ℕ, ◌<◌, ◌≤◌, Bool, true, false, Ok, Err, refl, arith, List, ◌∷◌, [], Option, ap}
 use Rattle.schedule.specs.declared.refusal.Refusal.TheVariants.{TableTooShort, UnsoundTable}
-use Rattle.machine.specs.Calls.{Lengths, answer, check, long_enough}
+use Rattle.machine.specs.Calls.{Answer, Lengths, answer, check, long_enough}
 use Rattle.machine.specs.Calls.{step_long_enough, injection_refusal, room_refusal, step_refusal}
 use Rattle.machine.specs.Machine.{Machine, depth, domains, routers}
 use Rattle.machine.specs.Runs.{Asked, inject, room, step}
 use Rattle.machine.proofs.OwnMachine.{answer_from}
+use Rattle.schedule.specs.declared.refusal.Refusal.{Refusal}
+use Rattle.schedule.specs.Refusals.{number}
+use Rattle.schedule.specs.Verdict.{earliest}
+
+-- where a call is accepted, its first check passes and the others do
+pub passes : (b : Bool) (why : Refusal) (rest : List (Option Refusal)) (n k : ℕ) → answer (earliest (check b why ∷ rest)) n ≡ Ok k
+    → (b ≡ true) × (answer (earliest rest) n ≡ Ok k)
+unfolding check answer
+passes true why rest n k e = (refl, e)
+passes false why rest n k e = absurd cc
+
+-- a refusal for another reason comes from the others
+not_that : (b : Bool) (why other : Refusal) (rest : List (Option Refusal)) (n : ℕ) → (number why ≡ number other → ⊥)
+    → answer (earliest (check b why ∷ rest)) n ≡ Err other → answer (earliest rest) n ≡ Err other
+unfolding check answer
+not_that true why other rest n d e = e
+not_that false why other rest n d e = let q : why ≡ other = cc in absurd (d (ap number q))
+
+passed : (b : Bool) (why : Refusal) (rest : List (Option Refusal)) (n : ℕ) (a : Answer) → b ≡ true
+    → answer (earliest (check b why ∷ rest)) n ≡ a → answer (earliest rest) n ≡ a
+unfolding check
+passed true why rest n a t e = e
+passed false why rest n a t e = absurd cc
+
+no_refusal : (n : ℕ) (why : Refusal) → answer (earliest []) n ≡ Err why → ⊥
+unfolding answer
+no_refusal n why e = cc
+
+-- behind the same check only what comes after it where it passes can differ
+guarded : (b : Bool) (why : Refusal) (xs ys : List (Option Refusal)) (n k : ℕ)
+    → (b ≡ true → answer (earliest xs) n ≡ answer (earliest ys) k)
+    → answer (earliest (check b why ∷ xs)) n ≡ answer (earliest (check b why ∷ ys)) k
+unfolding check answer
+guarded true why xs ys n k f = f refl
+guarded false why xs ys n k f = refl
 
 -- what an accepted call was checked for
 pub accepted_injection : (m : Machine) (sound : Bool) (l : Lengths) (router domain destination count n k : ℕ)

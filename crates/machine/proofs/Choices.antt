@@ -1,5 +1,5 @@
 -- What the choices of a cycle keep to, for any view.
-use Rattle.std.proofs.Common.{◌≡◌, ℕ, ◌+◌, ◌-◌, ◌<◌, ◌≤◌, true, [], ◌∷◌, map, length, ap, ◌∙◌, ⊎_elim, arith}
+use Rattle.std.proofs.Common.{◌≡◌, ℕ, ◌+◌, ◌-◌, ◌<◌, ◌≤◌, true, [], ◌∷◌, map, length, ap, ◌∙◌, ⊎_elim, arith, Bool, false, cond, List, take, refl}
 use Rattle.std.specs.List.{AllByRecursion}
 use Rattle.std.proofs.lemmas.List.{length-take, length-map, append-nil}
 use Rattle.std.proofs.ByRecursion.{All-take, All-map, All-weaker}
@@ -16,13 +16,26 @@ pub record InLimits {P : Type 0} (c : Machine) (t : ℕ) (x : Packet P) : Type 0
   pub ready : x.ready ≤ t + hop c - 1
 
 module _ {P : Type 0} (c : Machine) (d : ℕ) (v : View P) where
+  first_some : (r i : ℕ) (xs : List (Packet P)) → first_leaves c d v r i xs ≡ true → 0 < length xs
+  unfolding first_leaves
+  first_some r i [] e = absurd cc
+  first_some r i (x ∷ xs) e = omega arith
+
   pub leaves_some : (r i : ℕ) → leaves c d v r i ≡ true → 0 < length (v.queue r i)
   unfolding leaves first_leaves
   leaves_some r i e = grind arith
 
+  cond_take : (b : Bool) (xs : List (Packet P)) → length (cond b (take 1 xs) []) ≤ 1
+  cond_take true xs = omega (arith, length-take 1 xs)
+  cond_take false xs = omega arith
+
   pub sends_one : (r p : ℕ) → length (sends c d v r p) ≤ 1
   unfolding sends
   sends_one r p = grind (arith, length-take 1 (v.queue r (winner c v r p)))
+
+  cond_some : (b : Bool) (xs : List (Packet P)) → 0 < length (cond b xs []) → b ≡ true
+  cond_some true xs h = refl
+  cond_some false xs h = absurd (omega arith)
 
   sends_grants : (r p : ℕ) → 0 < length (sends c d v r p) → grants c d v r p ≡ true
   unfolding sends
@@ -60,6 +73,10 @@ module _ {P : Type 0} (c : Machine) (d : ℕ) (v : View P) where
       let sent = length_joins r i p.0 p.1 in
       grind (arith, sent, sends_grants p.0 (opposite i), grants_room p.0 (opposite i) r b.3 b.1, b.2))
       (beyond_cases c r i)
+
+  cond_all : (Q : Packet P → Type 0) (b : Bool) (xs : List (Packet P)) → AllByRecursion Q xs → AllByRecursion Q (cond b (take 1 xs) [])
+  cond_all Q true xs a = All-take Q 1 xs a
+  cond_all Q false xs a = tt
 
   sends_all : (Q : Packet P → Type 0) → ((r i : ℕ) → AllByRecursion Q (v.queue r i)) → (r p : ℕ) → AllByRecursion Q (sends c d v r p)
   unfolding sends

@@ -19,6 +19,13 @@ use Rattle.machine.proofs.Marks.{arrives, delivered, undelivered}
 use Rattle.machine.proofs.OneCall.{next_intact, other_view, own_answered, own_view, own_delivered}
 use Rattle.machine.proofs.OwnMachine.{answer_from, added, own_answer, own_next, own_deliveries}
 use Rattle.machine.proofs.Soundness.{Intact}
+use Rattle.schedule.specs.declared.refusal.Refusal.{Refusal}
+
+unlike : {A : Type 0} (n : ℕ) (why : Refusal) → ◌≡◌ {A = Answer} (Ok n) (Err why) → A
+unlike n why e = absurd cc
+
+same_ok : (n k : ℕ) → ◌≡◌ {A = Answer} (Ok n) (Ok k) → n ≡ k
+same_ok n k e = cc
 
 module _ {P : Type 0} (c : Machine) (kept : Kept c) (p : Injected P) (hd : p.domain < domains c) (he : p.destination < routers c)
     (h : ℕ) where

@@ -1,10 +1,14 @@
 -- Links: the router beyond a side lies in the mesh, and has this one beyond its opposite side.
-use Rattle.std.proofs.Common.{◌≡◌, ℕ, ◌*◌, ◌<◌, ◌⊎◌, [], ◌∷◌, Some, Option, sym, refl, ap, ◌∙◌, mul_comm, arith}
+use Rattle.std.proofs.Common.{◌≡◌, ℕ, ◌*◌, ◌<◌, ◌⊎◌, [], ◌∷◌, Some, Option, sym, refl, ap, ◌∙◌, mul_comm, arith, Bool, true, cond, None, inl, inr}
 use Rattle.std.specs.Option.{option_map, option_to_list}
 use Rattle.std.proofs.lemmas.Nat.{div-mul-add, mod-mul-add, div_below, mod_below, div-add-mod', mul-add-lt}
 use Rattle.schedule.specs.declared.geometry.Position.{Position}
 use Rattle.schedule.specs.Mesh.{position, position_of, router_at, Within, neighbour}
 use Rattle.machine.specs.Machine.{Machine, width, routers, beyond, opposite}
+
+-- a test that passed chooses its place
+choose : (test : Bool) (x y : Position) → test ≡ true → x.column ≡ y.column → x.row ≡ y.row → cond test (Some x) None ≡ Some y
+choose test x y e c r = rw e (λ i. Some (position (c i) (r i)))
 
 abbrev pub Back : ℕ → ℕ → Position → ℕ → Position → Type 0
 Back w h a side b = Within w h b × (neighbour w h b (opposite side) ≡ Some a) × (opposite (opposite side) ≡ side) × (opposite side < 4)
@@ -27,6 +31,10 @@ position_within w h r p l = (mod_below r w p, div_below r w h p (omega (arith, m
 listed : (w : ℕ) (o : Option Position) (s : ℕ) → option_to_list (option_map (router_at w) o) ≡ s ∷ []
     → (p : Position) × (o ≡ Some p) × (router_at w p ≡ s)
 listed w o s e = grind arith
+
+one_of : (o : Option ℕ) → (option_to_list o ≡ []) ⊎ ((s : ℕ) × (option_to_list o ≡ s ∷ []))
+one_of None = inl refl
+one_of (Some s) = inr (s, refl)
 
 pub some_of_list : (o : Option ℕ) (s : ℕ) → option_to_list o ≡ s ∷ [] → o ≡ Some s
 some_of_list o s e = grind arith

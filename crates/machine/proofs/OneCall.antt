@@ -42,6 +42,12 @@ module _ {P : Type 0} (c : Machine) (t : Tables P) where
   unfolding unchanged
   tables_unchanged a call = grind arith
 
+  answer_unchanged : (a : Answer) (call : Call P) → (unchanged a t call).answer ≡ a
+  unfolding unchanged
+  answer_unchanged a (inject r d e x) = refl
+  answer_unchanged a (room r d) = refl
+  answer_unchanged a (step ds gs) = refl
+
   answer_accepted : (call : Call P) → (accepted c t call).answer ≡ answer_to c t call
   unfolding accepted
   answer_accepted call = grind arith

@@ -1,9 +1,9 @@
 -- A ring of places: what is left of it where the first entry leaves and one joins behind the last.
-use Rattle.std.proofs.Common.{◌≡◌, ℕ, zero, suc, ◌+◌, ◌-◌, ◌%◌, ◌<◌, ◌≤◌, Bool, true, false, cond, eqb, List, [], ◌∷◌, ◌++◌, length, drop, sym, refl, ap, ◌∙◌, ap₂, mod-lt, mod-eq_of_lt, arith}
+use Rattle.std.proofs.Common.{◌≡◌, ℕ, zero, suc, ◌+◌, ◌-◌, ◌%◌, ◌<◌, ◌≤◌, Bool, true, false, cond, eqb, List, [], ◌∷◌, ◌++◌, length, drop, sym, refl, ap, ◌∙◌, ap₂, mod-lt, mod-eq_of_lt, arith, ◌⊎◌, inl, inr, ⊎_elim}
 use native.Mathlib.Nat.{mod-eq-sub-mod, mod-add-mod}
 use Rattle.std.specs.List.{range_with_len, flat_map}
 use Rattle.std.proofs.lemmas.List.{append-nil, append_assoc, drop_at, length-append}
-use Rattle.std.proofs.lemmas.Bool.{eq-eqb, ne_eqb}
+use Rattle.std.proofs.lemmas.Bool.{eq-eqb, ne_eqb, cases_lt}
 use Rattle.machine.specs.Cycle.{bit}
 
 -- n entries of a ring of b places from place f on; each place gives a list
@@ -33,6 +33,12 @@ joined_last p a (suc n) = grind (arith, append_assoc, joined_last p (a + 1) n)
 joined_length : {X : Type 0} (p : ℕ → List X) (a n : ℕ) → ((j : ℕ) → length (p j) ≡ 1) → length (flat_map p (range_with_len a n)) ≡ n
 joined_length p a zero h = refl
 joined_length p a (suc n) h = omega (arith, length-append (p a) (flat_map p (range_with_len (a + 1) n)), h a, joined_length p (a + 1) n h)
+
+-- below 2 b one b less at most
+wrap : (b x : ℕ) → x < b + b → ((x < b) × (x % b ≡ x)) ⊎ ((b ≤ x) × (x % b ≡ x - b))
+wrap b x h =
+    ⊎_elim (λ (l : x < b). inl (l, mod-eq_of_lt l))
+    (λ (l : b ≤ x). let k : x - b < b = omega arith in inr (l, mod-eq-sub-mod l ∙ mod-eq_of_lt k)) (cases_lt x b)
 
 -- fewer than b places on is another place
 apart : (b f j n : ℕ) → f < b → j < n → n < b → (f + j) % b ≡ (f + n) % b → ⊥

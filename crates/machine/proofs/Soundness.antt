@@ -1,5 +1,5 @@
 -- Tables that are sound stay so through every move of a cycle and of an injection.
-use Rattle.std.proofs.Common.{◌≡◌, ℕ, zero, suc, ◌+◌, ◌-◌, ◌<◌, ◌≤◌, Bool, true, cond, eqb, List, [], ◌∷◌, length, drop, refl, ap, ◌∙◌, arith}
+use Rattle.std.proofs.Common.{◌≡◌, ℕ, zero, suc, ◌+◌, ◌-◌, ◌<◌, ◌≤◌, Bool, true, cond, eqb, List, [], ◌∷◌, length, drop, refl, ap, ◌∙◌, arith, false}
 use Rattle.std.specs.List.{AllByRecursion}
 use Rattle.std.proofs.ByRecursion.{All-drop, All-weaker, All-append}
 use Rattle.std.proofs.lemmas.Bool.{cond_both, and_from, lt-ltb, le-leb, eqb-true}
@@ -101,6 +101,14 @@ module _ {P : Type 0} (c : Machine) (kept : Kept c) (t : Tables P) (ok : Intact 
 
   -- an injection's too
   module _ (q : ℕ) (x : Packet P) (full : (queue_at t q).count < depth c) where
+    one_if : (b : Bool) → length (cond b (x ∷ []) []) ≤ 1
+    one_if true = omega arith
+    one_if false = omega arith
+
+    only_if : (b : Bool) → 0 < length (cond b (x ∷ []) []) → b ≡ true
+    only_if true h = refl
+    only_if false h = absurd (omega arith)
+
     pub can_inject : (k : ℕ) → k < queues c → Can c (injection_moves t q x) t k
     unfolding injection_moves
     can_inject k h = record {

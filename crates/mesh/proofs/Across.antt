@@ -11,6 +11,8 @@ use Rattle.mesh.specs.Heads.{no_queue, ports}
 use Rattle.mesh.specs.Heads as heads
 use Rattle.mesh.specs.Ports.{across, across_to, has_room}
 use Rattle.mesh.proofs.Index.{router_in}
+use Rattle.std.proofs.lemmas.Bool.{lt-ltb}
+use Rattle.schedule.specs.Plans.{beside}
 
 -- a machine of the plan: its links are the plan's, whatever its rules are
 linked : Plan → Machine
@@ -57,6 +59,16 @@ opposite_high (suc zero) h = absurd (omega arith)
 opposite_high (suc (suc zero)) h = absurd (omega arith)
 opposite_high (suc (suc (suc zero))) h = absurd (omega arith)
 opposite_high (suc (suc (suc (suc side)))) h = refl
+
+-- the router that a plan names beyond port k
+pub beside_some : (plan : Plan) (k n : ℕ) → k < ports plan → Some n ≡ beside plan (k / 5) (k % 5)
+    → (Some n ≡ neighbour_of plan.sizes.width plan.sizes.height (k / 5) (k % 5)) × (n < heads.routers plan) × (opposite (k % 5) < 4)
+beside_some plan k n h e =
+    let r = router_in plan k h in
+    let inside = lt-ltb _ _ r in
+    let f : Some n ≡ neighbour_of plan.sizes.width plan.sizes.height (k / 5) (k % 5) = rw inside at e in
+    let b = neighbour_back plan (k / 5) (k % 5) n r (sym f) in
+    (f, b.0, b.3)
 
 -- what lies across is in the mesh
 pub across_inside : (plan : Plan) (k : ℕ) → k < ports plan → (o : Option ℕ) → o ≡ across plan k → IfSome o (λ j. j < ports plan)

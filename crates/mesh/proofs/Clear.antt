@@ -2,23 +2,28 @@
 use Rattle.std.proofs.Common.{◌≡◌, ℕ, ◌+◌, ◌-◌, ◌*◌, ◌/◌, ◌%◌, ◌^◌, ◌<◌, ◌≤◌, Bool, true, false, cond, ◌&&◌, eqb, ltb, leb, ◌⊎◌, List, length, get_or, take, replicate, Some, None, Option, sym, refl, ap, ◌∙◌, subst, inl, inr, ⊎_elim, mod-eq_of_lt, arith, is_some, unwrap_or}
 use lib.Arith.{digits_div, digits_mod}
 use native.Mathlib.Nat.{mod-eq-sub-mod}
-use Rattle.std.proofs.lemmas.List.{length-replicate, get_or_past, get_or-take, length-take-le}
+use Rattle.std.proofs.lemmas.List.{length-replicate, get_or_past, get_or-take, length-take-le, get_or-replicate}
 use Rattle.std.proofs.lemmas.Bool.{cases_lt, true≢false, ltb-true, and_parts, eqb-true, or_cases, cond_both}
 use Rattle.mesh.specs.Heads.{Outset, Fit, ports, queue_count, no_queue, head_place, head, head_side, asking_set, asker, asks}
 use Rattle.mesh.specs.Ports.{move_at, no_move, passes_at, moves, move_of, move_in, chosen, room, owner, across, passes}
 use Rattle.mesh.specs.After.{landing, arriving, arriving_by, passing}
-use Rattle.mesh.proofs.Edited.{getD_edit, length_edit}
+use Rattle.mesh.proofs.Edited.{getD_edit, length_edit, getD_edit_past}
 use Rattle.std.proofs.lemmas.Nat.{div-add-mod'}
 use Rattle.mesh.specs.declared.moves.Move.{Move}
 use Rattle.mesh.proofs.Chosen.{move_cases}
 use Rattle.mesh.proofs.Masks.{mask_lt, mask_bit}
 use Rattle.mesh.proofs.Index.{ports_le, side_queue_in, place_in, place_count_pos, queue_port_in}
 use Rattle.mesh.specs.Orderly.{Orderly, source}
-use Rattle.mesh.proofs.Cut.{none_from}
+use Rattle.mesh.proofs.Cut.{none_from, cut_all}
 use Rattle.mesh.proofs.Owners.{owner_below}
 use Rattle.mesh.proofs.Across.{some_of, across_back, across_local}
 
-bit_true : (b : Bool) → ◌≡◌ {A = ℕ} (cond b 1 0) 1 → b ≡ true
+-- a table of 320 ports that pass nothing has none everywhere
+idle_all : (k : ℕ) → get_or {A = Option Move} (replicate 320 None) k None ≡ None
+idle_all k = ⊎_elim (λ (h : k < 320). get_or-replicate {A = Option Move} 320 k None None h)
+    (λ (h : 320 ≤ k). get_or_past {X = Option Move} (replicate 320 None) k None (rw (length-replicate {A = Option Move} 320 None) h)) (cases_lt k 320)
+
+pub bit_true : (b : Bool) → ◌≡◌ {A = ℕ} (cond b 1 0) 1 → b ≡ true
 bit_true true e = refl
 bit_true false e = absurd (omega arith)
 
@@ -45,8 +50,17 @@ module _ (v : Outset) (choose : ℕ → ℕ → (ℕ × ℕ)) (words : List ℕ)
       get_or-take (ports v.plan) (moves v choose words) k None h
       ∙ getD_edit (ports v.plan) (chosen v choose words) (replicate 320 None) k None h l
 
-  move_past : (k : ℕ) → ports v.plan ≤ k → get_or (made v choose words) k None ≡ None
+  pub move_past : (k : ℕ) → ports v.plan ≤ k → get_or (made v choose words) k None ≡ None
   move_past k h = get_or_past (made v choose words) k None (rw made_length h)
+
+  -- past the plan's ports the whole table has none
+  pub moves_past : (k : ℕ) → ports v.plan ≤ k → get_or (moves v choose words) k None ≡ None
+  unfolding moves
+  moves_past k h = getD_edit_past (ports v.plan) (chosen v choose words) (replicate 320 None) k None h ∙ idle_all k
+
+  -- so both tables have the same entries
+  pub made_is : (k : ℕ) → get_or (made v choose words) k None ≡ get_or (moves v choose words) k None
+  made_is k = cut_all v.plan (moves v choose words) moves_past k
 
   module _ (fit : Fit v.plan v.queues v.places) (within : (word set : ℕ) → 0 < set → set < 32 → (choose word set).0 < 5)
       (wins : (word set : ℕ) → 0 < set → set < 32 → set / 2 ^ (choose word set).0 % 2 ≡ 1) where
@@ -102,7 +116,7 @@ module _ (v : Outset) (choose : ℕ → ℕ → (ℕ × ℕ)) (words : List ℕ)
     passed j e = ⊎_elim (λ no. absurd (true≢false (sym e ∙ ap (λ (m : Option Move). is_some m) no))) (λ yes. yes) (idle_or_passed j)
 
     -- the queue that port j takes from: it is in the mesh, its router is the port's, and it is not empty
-    queue_of : (j : ℕ) → j < ports v.plan → Passed j → source v.plan (made v choose words) j < queue_count v.plan
+    pub queue_of : (j : ℕ) → j < ports v.plan → Passed j → source v.plan (made v choose words) j < queue_count v.plan
     queue_of j h p = side_queue_in v.plan j (move_at (made v choose words) j).winner (move_at (made v choose words) j).owner h
         p.won p.owns
 

@@ -1,5 +1,5 @@
 -- The moves of the ports below n: a loop that makes moves one after the other has made those.
-use Rattle.std.proofs.Common.{◌≡◌, ℕ, ◌+◌, ◌*◌, ◌/◌, ◌%◌, ◌<◌, ◌≤◌, Bool, true, false, cond, ◌&&◌, eqb, List, [], get_or, take, Some, None, Option, sym, refl, ap, ◌∙◌, ⊎_elim, add-zero, arith, is_some, unwrap_or}
+use Rattle.std.proofs.Common.{◌≡◌, ℕ, ◌+◌, ◌*◌, ◌/◌, ◌%◌, ◌<◌, ◌≤◌, Bool, true, false, cond, ◌&&◌, eqb, List, [], get_or, take, Some, None, Option, sym, refl, ap, ◌∙◌, ⊎_elim, add-zero, arith, is_some, unwrap_or, length}
 use lib.Arith.{digits_div, digits_mod}
 use Rattle.std.proofs.lemmas.List.{get_or_past, get_or-take, length-take}
 use Rattle.std.proofs.lemmas.Nat.{div-add-mod', mod_below}
@@ -10,6 +10,7 @@ use Rattle.mesh.specs.Ports.{move_at, no_move, passes_at, across}
 use Rattle.mesh.specs.After.{passing, taking, arriving, arriving_by, leaving}
 use Rattle.mesh.specs.Orderly.{source}
 use Rattle.mesh.proofs.Cases.{at_five, bool_same}
+use Rattle.mesh.specs.Heads.{ports}
 
 pub none_from : {X : Type 0} (o : Option X) → ((j : X) → o ≡ Some j → ⊥) → o ≡ None
 none_from None h = refl
@@ -77,10 +78,10 @@ module _ (plan : Plan) (ns : List (Option Move)) where
       leaves_at q (j % 5) (mod_below j 5 (omega arith)) (rw (r, i, d, div-add-mod' j 5) all)
 
 module _ (ms : List (Option Move)) where
-  cut_in : (n j : ℕ) → j < n → get_or (take n ms) j None ≡ get_or ms j None
+  pub cut_in : (n j : ℕ) → j < n → get_or (take n ms) j None ≡ get_or ms j None
   cut_in n j h = get_or-take n ms j None h
 
-  cut_past : (n j : ℕ) → n ≤ j → get_or (take n ms) j None ≡ None
+  pub cut_past : (n j : ℕ) → n ≤ j → get_or (take n ms) j None ≡ None
   cut_past n j h = get_or_past (take n ms) j None (simp length-take (omega arith))
 
   pub cut_other : (k j : ℕ) → (j ≡ k → ⊥) → get_or (take (k + 1) ms) j None ≡ get_or (take k ms) j None
@@ -167,3 +168,33 @@ module _ (plan : Plan) (ms : List (Option Move)) where
   pub leaving_none : (q : ℕ) → leaving plan [] q ≡ false
   unfolding leaving
   leaving_none q = refl
+
+  -- after the last
+  module _ (past : (j : ℕ) → ports plan ≤ j → get_or ms j None ≡ None) where
+    pub cut_all : (j : ℕ) → get_or (take (ports plan) ms) j None ≡ get_or ms j None
+    cut_all j = ⊎_elim (λ (h : j < ports plan). cut_in ms (ports plan) j h)
+        (λ (h : ports plan ≤ j). cut_past ms (ports plan) j h ∙ sym (past j h)) (cases_lt j (ports plan))
+
+    by_all : (d : ℕ) (o : Option ℕ) → arriving_by (take (ports plan) ms) d o ≡ arriving_by ms d o
+    by_all d None = refl
+    by_all d (Some j) = ap (λ (m : Option Move). cond (is_some m && eqb (unwrap_or m no_move).owner d) (Some j) None) (cut_all j)
+
+    pub arriving_all : (q : ℕ) → arriving plan (take (ports plan) ms) q ≡ arriving plan ms q
+    unfolding arriving
+    arriving_all q = by_all (q % plan.sizes.domains) (across plan (q / plan.sizes.domains))
+
+    taking_all : (j i d : ℕ) → taking (take (ports plan) ms) j i d ≡ taking ms j i d
+    taking_all j i d =
+        ap (λ (m : Option Move). (is_some m && eqb (unwrap_or m no_move).owner d) && eqb (unwrap_or m no_move).winner i) (cut_all j)
+
+    pub leaving_all : (q : ℕ) → leaving plan (take (ports plan) ms) q ≡ leaving plan ms q
+    unfolding leaving
+    leaving_all q =
+        let r = q / plan.sizes.domains / 5 * 5 in
+        let i = q / plan.sizes.domains % 5 in
+        let d = q % plan.sizes.domains in
+        rw (taking_all r i d, taking_all (r + 1) i d, taking_all (r + 2) i d, taking_all (r + 3) i d, taking_all (r + 4) i d) refl
+
+-- a table of the plan's ports alone has none past them
+pub past_of : (plan : Plan) (ms : List (Option Move)) → length ms ≡ ports plan → (j : ℕ) → ports plan ≤ j → get_or ms j None ≡ None
+past_of plan ms exact j h = get_or_past ms j None (rw exact h)

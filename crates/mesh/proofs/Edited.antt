@@ -50,7 +50,7 @@ module _ {X : Type 0} where
       → get_or (edit 0 n f xs) k d ≡ f k (get_or xs k d)
   getD_edit n f xs k d h j = getD_from f 0 n xs k d h j ∙ ap (λ i. f i (get_or xs k d)) (zero-add k)
 
-  getD_edit_past : (n : ℕ) (f : ℕ → X → X) (xs : List X) (k : ℕ) (d : X) → n ≤ k → get_or (edit 0 n f xs) k d ≡ get_or xs k d
+  pub getD_edit_past : (n : ℕ) (f : ℕ → X → X) (xs : List X) (k : ℕ) (d : X) → n ≤ k → get_or (edit 0 n f xs) k d ≡ get_or xs k d
   getD_edit_past n f xs k d h = getD_past_from f 0 n xs k d h
 
   pub edit_none : (f : ℕ → X → X) (xs : List X) → edit 0 0 f xs ≡ xs

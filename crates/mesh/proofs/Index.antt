@@ -8,7 +8,7 @@ use Rattle.machine.specs.declared.tables.Queue.{Queue}
 use Rattle.machine.specs.declared.tables.Place.{Place}
 use Rattle.mesh.specs.Heads.{Fit, no_queue, routers, ports, queue_count}
 
-routers_le : (plan : Plan) → routers plan ≤ 64
+pub routers_le : (plan : Plan) → routers plan ≤ 64
 routers_le plan = mul-le plan.sizes.width plan.sizes.height 8 8 plan.width.1 plan.height.1
 
 pub ports_le : (plan : Plan) → ports plan ≤ 320
@@ -52,6 +52,16 @@ queue_port_in plan q h = div_below q plan.sizes.domains (ports plan) plan.domain
 -- the queue of place k
 pub place_queue_in : (plan : Plan) (k : ℕ) → k < queue_count plan * plan.sizes.depth → k / plan.sizes.depth < queue_count plan
 place_queue_in plan k h = div_below k plan.sizes.depth (queue_count plan) plan.depth.0 h
+
+-- the last port of the router of queue q
+pub last_port : (plan : Plan) (q : ℕ) → q < queue_count plan → q / plan.sizes.domains / 5 * 5 + 4 < 320
+last_port plan q h =
+    let r = router_in plan (q / plan.sizes.domains) (queue_port_in plan q h) in
+    let n = routers_le plan in
+    omega arith
+
+pub port_below : (plan : Plan) (n k : ℕ) → n ≡ routers plan → k < n * 5 → k < ports plan
+port_below plan n k e h = omega arith
 
 pub place_count_pos : (plan : Plan) → 0 < queue_count plan * plan.sizes.depth
 place_count_pos plan =

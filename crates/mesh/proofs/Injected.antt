@@ -74,7 +74,7 @@ module _ {P : Type 0} (plan : Plan) (choose : ℕ → ℕ → ℕ × ℕ) (route
         let r = mod-mul-add q b last low in
         rw (d, r, eq-eqb q q refl, eq-eqb last last refl) (sym (lands y))
 
-    landed : (xs : List X) (d : X) → queue_count plan * b ≤ length xs
+    pub landed : (xs : List X) (d : X) → queue_count plan * b ≤ length xs
         → set xs (end_place plan t.queues q) v ≡ edit 0 (queue_count plan * b) landing xs
     landed xs d long = written (queue_count plan * b) landing xs (end_place plan t.queues q) v d (place_in plan q last inside low) long other (here _)
 

@@ -1,5 +1,6 @@
 mod Across
 mod Answered
+mod Called
 mod Cases
 mod Chosen
 mod Clear

@@ -1,5 +1,5 @@
 -- Sets of bits.
-use Rattle.std.proofs.Common.{◌≡◌, ℕ, zero, suc, ◌+◌, ◌-◌, ◌*◌, ◌/◌, ◌%◌, ◌^◌, ◌<◌, ◌≤◌, Bool, true, false, cond, refl, ap, ◌∙◌, ⊎_elim, not-suc-le-zero, add-zero, add-one, arith}
+use Rattle.std.proofs.Common.{◌≡◌, ℕ, zero, suc, ◌+◌, ◌-◌, ◌*◌, ◌/◌, ◌%◌, ◌^◌, ◌<◌, ◌≤◌, Bool, true, false, cond, refl, ap, ◌∙◌, ⊎_elim, not-suc-le-zero, add-zero, add-one, arith, sym}
 use native.Mathlib.Nat.{add-mul-div_right, add-div_right, div-eq_of_lt}
 use Rattle.std.proofs.lemmas.Nat.{pow-add, pow_pos}
 use Rattle.std.proofs.lemmas.Bool.{cond_both, cases_lt}
@@ -12,6 +12,16 @@ mask_none f = refl
 pub mask_more : (f : ℕ → Bool) (i : ℕ) → mask f (i + 1) ≡ mask f i + cond (f i) (2 ^ i) 0
 unfolding mask
 mask_more f i = ap (mask f) (add-one i)
+
+module _ (f : ℕ → Bool) (i set bit : ℕ) (so : set ≡ mask f i) (below : set < bit) (is : bit ≡ 2 ^ i) where
+  twice : bit * 2 ≡ 2 ^ (i + 1)
+  twice = let p : 2 ^ (i + 1) ≡ 2 ^ i * 2 = pow-add 2 i 1 in omega arith
+
+  pub mask_in : f i ≡ true → (set + bit ≡ mask f (i + 1)) × (set + bit < bit * 2) × (bit * 2 ≡ 2 ^ (i + 1))
+  mask_in e = (sym (mask_more f i ∙ rw e (ap (λ n. n + 2 ^ i) (sym so) ∙ ap (λ n. set + n) (sym is))), omega arith, twice)
+
+  pub mask_out : f i ≡ false → (set ≡ mask f (i + 1)) × (set < bit * 2) × (bit * 2 ≡ 2 ^ (i + 1))
+  mask_out e = (sym (mask_more f i ∙ rw e (ap (λ n. n + 0) (sym so) ∙ add-zero set)), omega arith, twice)
 
 pub mask_lt : (f : ℕ → Bool) (n : ℕ) → mask f n < 2 ^ n
 unfolding mask

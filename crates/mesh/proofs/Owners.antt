@@ -1,5 +1,5 @@
 -- Every port has an owner among the plan's domains.
-use Rattle.std.proofs.Common.{◌≡◌, ℕ, ◌+◌, ◌-◌, ◌<◌, Bool, true, false, length, take, Some, ap, ◌∙◌, mod-lt, arith, length-append, length-take}
+use Rattle.std.proofs.Common.{◌≡◌, ℕ, ◌+◌, ◌-◌, ◌<◌, Bool, true, false, length, take, Some, ap, ◌∙◌, mod-lt, arith, length-append, length-take, None}
 use lib.ListN.{length-replicate}
 use Rattle.schedule.specs.declared.plan.Plan.{Plan}
 use Rattle.schedule.specs.Plans.{known}
@@ -15,3 +15,7 @@ owner_below plan cycle k =
 pub known_is : {X : Type 0} (b : Bool) (x y : X) → Some y ≡ known b x → y ≡ x
 known_is true x y e = cc
 known_is false x y e = absurd (let z : ◌≡◌ {A = ℕ} 0 1 = cc in omega arith)
+
+pub known_not : {X : Type 0} (b : Bool) (x : X) → b ≡ true → None ≡ known b x → ⊥
+known_not true x t e = let z : ◌≡◌ {A = ℕ} 0 1 = cc in omega arith
+known_not false x t e = let z : ◌≡◌ {A = ℕ} 0 1 = cc in omega arith

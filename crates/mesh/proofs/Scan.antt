@@ -133,3 +133,21 @@ module _ (plan : Plan) (t : ℕ) (queues : List Queue) (places : List Place) whe
               ∙ ap (λ d. sound_ring plan t d (get_or queues q no_queue) (get_or (first_chunks d (length places / b) places) q [])) deep
               ∙ at_depth (length places / b) q (omega arith),
         )
+
+-- the same among all places
+module _ (plan : Plan) (t : ℕ) (places : List Place) (q b : ℕ) (deep : b ≡ plan.sizes.depth) (x : Queue) (low : x.first < b)
+    (few : x.count ≤ b) where
+  pub places_all : ((s : ℕ) → s < b → held b x s ≡ true → sound_place plan t (get_or places (q * b + s) no_place) ≡ true)
+      → all_below (sound_held plan t places q x.first) x.count ≡ true
+  unfolding sound_held
+  places_all all = below_all (sound_held plan t places q x.first) x.count
+      (λ i h. rw (← deep) (all ((x.first + i) % b) (mod_below (x.first + i) b (omega arith)) (held_at b x low i h few)))
+
+  pub places_stop : (s : ℕ) → s < b → true ≡ (not (sound_place plan t (get_or places (q * b + s) no_place)) && held b x s)
+      → all_below (sound_held plan t places q x.first) x.count ≡ false
+  unfolding sound_held
+  places_stop s h e =
+      let ok = sound_place plan t (get_or places (q * b + s) no_place) in
+      let p = and_parts (not ok) (held b x s) (sym e) in
+      let i = packet_at b x low s h p.1 in
+      below_stop (sound_held plan t places q x.first) x.count i.0 i.1.0 (rw (← deep, i.1.1) (not-true ok p.0))

@@ -17,7 +17,7 @@ use Rattle.mesh.specs.After.{one, passing, arriving, leaving, landing, word_afte
 use Rattle.mesh.specs.After.{payload_after, queue_after}
 use Rattle.mesh.specs.Orderly.{Orderly, source, end_place}
 use Rattle.mesh.proofs.Cut.{taken, leaves, cut_other, cut_here, cut_passes, passing_same, arriving_same, arriving_here}
-use Rattle.mesh.proofs.Cut.{arriving_not, arriving_less, arriving_none, leaving_none}
+use Rattle.mesh.proofs.Cut.{arriving_all, arriving_not, arriving_less, arriving_none, cut_all, leaving_all, leaving_none}
 use Rattle.mesh.proofs.Cases.{bool_same}
 use Rattle.mesh.proofs.Edited.{edit_at, edit_like, getD_edit}
 use Rattle.mesh.proofs.Across.{across_back}
@@ -66,27 +66,33 @@ some_none o i a b = let z : ◌≡◌ {A = ℕ} 0 1 = cc in omega arith
 both : (b : Bool) → b ≡ true → b ≡ false → ⊥
 both b e f = true≢false (sym e ∙ f)
 
--- the moves of all ports
-module _ (plan : Plan) (queues : List Queue) (ms : List (Option Move)) (exact : length ms ≡ ports plan) where
+-- a table of the plan's ports alone is its own front
+module _ (plan : Plan) (ms : List (Option Move)) (exact : length ms ≡ ports plan) where
   whole : take (ports plan) ms ≡ ms
   whole = ap (λ n. take n ms) (sym exact) ∙ take-length ms
 
+-- the moves of all ports
+module _ (plan : Plan) (queues : List Queue) (ms : List (Option Move)) (past : (j : ℕ) → ports plan ≤ j → get_or ms j None ≡ None) where
+  landing_all : (s : ℕ) → landing plan queues (take (ports plan) ms) s ≡ landing plan queues ms s
+  unfolding landing
+  landing_all s = rw (arriving_all plan ms past (s / plan.sizes.depth)) refl
+
   pub word_all : (q x : ℕ) → word_part plan ms (ports plan) q x ≡ word_after plan ms q x
   unfolding word_part word_after
-  word_all q x = rw whole refl
+  word_all q x = rw (cut_all plan ms past (q / plan.sizes.domains)) refl
 
   pub place_all : (t s : ℕ) (x : Place) → place_part plan t queues ms (ports plan) s x ≡ place_after plan t queues ms s x
   unfolding place_part place_after
-  place_all t s x = rw whole refl
+  place_all t s x = rw (landing_all s) refl
 
   pub payload_all : {P : Type 0} (old : List P) (s : ℕ) (x : P)
       → payload_part plan queues ms old (ports plan) s x ≡ payload_after plan queues ms old s x
   unfolding payload_part payload_after
-  payload_all old s x = rw whole refl
+  payload_all old s x = rw (landing_all s) refl
 
   pub queue_all : (q : ℕ) (x : Queue) → queue_part plan ms (ports plan) (ports plan) q x ≡ queue_after plan ms q x
   unfolding queue_part queue_after
-  queue_all q x = rw whole refl
+  queue_all q x = rw (arriving_all plan ms past q, leaving_all plan ms past q) refl
 
 -- no move
 module _ (plan : Plan) (queues : List Queue) (ms : List (Option Move)) where
@@ -387,7 +393,7 @@ module _ (plan : Plan) (queues : List Queue) (ms : List (Option Move)) (o : Orde
           (λ q x h. rw (fed_same q h (λ j a e y. some_none _ j a n)) refl)
 
       -- the queue that is joined, as it stands
-      queues_to : (j : ℕ) → across plan k ≡ Some j → j < ports plan →
+      pub queues_to : (j : ℕ) → across plan k ≡ Some j → j < ports plan →
           get_or cur (j * D + m.owner) no_queue ≡ queue_part plan ms (k + 1) k (j * D + m.owner) (get_or queues (j * D + m.owner) no_queue)
       queues_to j a inside =
           let q = j * D + m.owner in

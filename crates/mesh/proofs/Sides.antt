@@ -1,7 +1,7 @@
 -- The sides that ask, by the port that each wants.
 use Rattle.std.proofs.Common.{◌≡◌, ℕ, ◌+◌, ◌*◌, ◌%◌, ◌^◌, ◌<◌, ◌≤◌, Bool, true, false, cond, ◌&&◌, eqb, ltb, leb, get_or, Some, None, Option, sym, refl, ap, ◌∙◌, ⊎_elim, add-zero, arith, pow_mono}
 use Rattle.std.proofs.lemmas.Nat.{pow_below}
-use Rattle.std.proofs.lemmas.Bool.{eq-eqb, ne_eqb, cases_eq, cond_both}
+use Rattle.std.proofs.lemmas.Bool.{eq-eqb, ne_eqb, cases_eq, cond_both, lt-ltb, le-ltb, cases_lt}
 use Rattle.mesh.specs.declared.asking.Asked.{Asked}
 use Rattle.mesh.specs.Asked.{asked}
 use Rattle.mesh.specs.Heads.{Outset, asks, wanted, head, head_side, no_queue, mask}
@@ -62,3 +62,17 @@ mark_small x f i s0 l h =
     let P : ℕ → Type 0 = λ n. n < 32 in
     let e : 2 ^ i ≤ 2 ^ 5 = pow_mono l in
     cond_both x (mask f i) s0 P (λ _. omega arith) (λ _. h)
+
+-- a domain that is nobody's
+pub range_same : (A : ℕ → ℕ) (o d : ℕ) → (o ≡ d → ⊥) → cond (ltb o d) (A o) 0 ≡ cond (ltb o (d + 1)) (A o) 0
+range_same A o d n = ⊎_elim
+    (λ (l : o < d). let t : o < d + 1 = omega arith in rw (lt-ltb o d l, lt-ltb o (d + 1) t) refl)
+    (λ (l : d ≤ o). let t : d + 1 ≤ o = omega arith in rw (le-ltb o d l, le-ltb o (d + 1) t) refl)
+    (cases_lt o d)
+
+-- one domain more
+pub range_more : (A : ℕ → ℕ) (o d s r : ℕ) → s ≡ cond (ltb o d) (A o) 0 → r ≡ cond (eqb o d) (A d) s → r ≡ cond (ltb o (d + 1)) (A o) 0
+range_more A o d s r is e = ⊎_elim
+    (λ (h : o ≡ d). let t : o < d + 1 = omega arith in rw (lt-ltb o (d + 1) t) (e ∙ rw (eq-eqb o d h) (ap A (sym h))))
+    (λ (n : o ≡ d → ⊥). e ∙ rw (ne_eqb o d n) (is ∙ range_same A o d n))
+    (cases_eq o d)

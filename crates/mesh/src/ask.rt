@@ -1,8 +1,6 @@
 // What the first packet of a queue asks for.
 ghost use Rattle.std.specs.Prelude.{◌≡◌, ℕ, ◌<◌};
-ghost use Rattle.std.specs.Option.{option_map};
 ghost use Rattle.schedule.specs.Mesh.{position_of};
-ghost use Rattle.schedule.specs.Sides.{side_number};
 ghost use Rattle.mesh.specs.Heads.{wanted as wanted_of, queue_count};
 ghost use Rattle.mesh.specs.Shared.{outset_of};
 
@@ -11,7 +9,6 @@ use rules::arbiter::Arbiter;
 use rules::route::RouteRule;
 use schedule::geometry::Position;
 use schedule::plan::Plan;
-use schedule::side::Side;
 
 // Where a router stands. The plan's own `position` answers an Option, since it is asked of routers outside the mesh too.
 fn position(plan: &Plan, router: u8) -> Position
@@ -24,11 +21,11 @@ fn position(plan: &Plan, router: u8) -> Position
 }
 
 impl<A: Arbiter, R: RouteRule> Outset<'_, A, R> {
-    // The port that the first packet of queue `q` of a router asks for, if one does.
+    // The port that the first packet of queue `q` of a router asks for, if one does: a number, as the route rule tells it.
     #[tactic(auto, using(crate::proofs::Index::head_in))]
-    pub(crate) fn wanted(&self, router: u8, q: usize) -> Option<Side>
+    pub(crate) fn wanted(&self, router: u8, q: usize) -> Option<u8>
         requires { q < queue_count self.now.plan.now }
-        ensures { option_map side_number result ≡ wanted_of (outset_of R.RouteRule.meaning self.now) router q }
+        ensures { result ≡ wanted_of (outset_of R.RouteRule.meaning self.now) router q }
     {
         let queue = self.queues[q];
         if queue.count == 0 {

@@ -1,6 +1,5 @@
 // Which sides of a router ask for each of its ports.
 ghost use Rattle.std.specs.Prelude.{◌≡◌, ℕ, ◌+◌, ◌*◌, ◌<◌, cond, ◌&&◌, ◌==◌, slice_index_or};
-ghost use Rattle.schedule.specs.Sides.{side_number};
 ghost use Rattle.mesh.specs.Heads.{asking_set, routers};
 ghost use Rattle.mesh.specs.Shared.{outset_of};
 ghost use Rattle.mesh.specs.Ports.{owner as owner_of};
@@ -9,7 +8,6 @@ ghost use Rattle.mesh.specs.Asked.{no_port, asked};
 use super::outset::Outset;
 use rules::arbiter::Arbiter;
 use rules::route::RouteRule;
-use schedule::side::Side;
 use std::array;
 
 // A port of a router in a cycle: the domain that it belongs to, and the sides that ask for it there, bit i for side i.
@@ -19,16 +17,20 @@ pub(crate) struct Asked {
     pub(crate) sides: u8,
 }
 
-// One side more in the set of the port that it wants, if that port belongs to the domain.
-fn mark(ports: &mut [Asked; 5], wants: Side, domain: u8, bit: u8)
+// One side more in the set of the port that it wants, if that port belongs to the domain. `wants` is the number that the route rule tells, and may be
+// no port's.
+fn mark(ports: &mut [Asked; 5], wants: u8, domain: u8, bit: u8)
     requires low { bit < 128 }
     requires small { (p : ℕ) → p < 5 → (slice_index_or ports.old p no_port).sides < 32 }
     ensures { (p : ℕ) → p < 5 →
         let x = slice_index_or ports.old p no_port in
         slice_index_or ports.new p no_port
-        ≡ asked x.owner (cond (x.owner == domain && side_number wants == p) (x.sides + bit) x.sides) }
+        ≡ asked x.owner (cond (x.owner == domain && wants == p) (x.sides + bit) x.sides) }
 {
-    let port = &mut ports[usize::from(u8::from(wants))];
+    if wants >= 5 {
+        return;
+    }
+    let port = &mut ports[usize::from(wants)];
     if port.owner == domain {
         port.sides += bit;
     }

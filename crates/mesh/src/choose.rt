@@ -72,14 +72,14 @@ impl<A: Arbiter, R: RouteRule> Outset<'_, A, R> {
         }
     }
 
-    // What each port of the mesh does in a cycle. With no heap, the table has room for the ports of the largest mesh.
-    pub(crate) fn choose_all(&self) -> [Option<Move>; 320]
-        ensures { result ≡ moves_of (outset_of R.RouteRule.meaning self.now) (A.Arbiter.meaning self.now.arbiter.now) self.now.words.now }
+    // What each port of the mesh does in a cycle, put into a table that holds no move yet: it is as long as the largest mesh has ports, and would be
+    // copied as an answer.
+    pub(crate) fn choose_all(&self, moves: &mut [Option<Move>; 320])
+        requires { moves.old ≡ replicate 320 None }
+        ensures { moves.new ≡ moves_of (outset_of R.RouteRule.meaning self.now) (A.Arbiter.meaning self.now.arbiter.now) self.now.words.now }
     {
-        let mut moves = [None; 320];
         for router in 0..self.plan.routers() {
-            self.choose_router(router, &mut moves);
+            self.choose_router(router, moves);
         }
-        moves
     }
 }

@@ -72,7 +72,9 @@ pub fn step<A: Arbiter, R: RouteRule, P: Copy>(
         places,
         words,
     };
-    let chosen = outset.choose_all();
+    // with no heap, the table has room for the ports of the largest mesh
+    let mut chosen = [None; 320];
+    outset.choose_all(&mut chosen);
     let moves = &chosen[..plan.routers() as usize * 5];
     deliver(moves, payloads, deliveries, delivered);
     make_moves(plan, present, moves, queues, places, payloads, words);

@@ -32,13 +32,9 @@ fn report_accepted(rt: &HostRuntime, accepted: Accepted, plan: &Plan) -> io::Res
 
 fn report_sizes(rt: &HostRuntime, plan: &Plan) -> io::Result<()> {
     let sizes = plan.sizes;
-    print!(rt;
-        "  columns {}, rows {}, domains {}",
-        sizes.width, sizes.height, sizes.domains
-    )?;
     println!(rt;
-        ", queue places {}, cycles a hop {}, slots {}",
-        sizes.depth, sizes.hop, plan.period
+        "  columns {}, rows {}, domains {}, queue places {}, cycles a hop {}, slots {}",
+        sizes.width, sizes.height, sizes.domains, sizes.depth, sizes.hop, plan.period
     )
 }
 

@@ -6,9 +6,14 @@ use Rattle.schedule.specs.Plans.{outcome, replaced_by}
 use Rattle.schedule.specs.Timetable.{Timetable}
 use Rattle.frames.specs.Frames.{PlanValue}
 use Rattle.planner.specs.declared.judgement.Offsets.{Offsets}
-use Rattle.planner.specs.Judged.{refused, left, tried_by}
+use Rattle.planner.specs.Judged.{refused, left, tried_by, accepted}
 
 module _ (p : PlanValue) (offsets : Offsets) (new held after : Timetable) where
+  pub taken_up : (v : Option Refusal) → outcome (Ok tt) after ≡ replaced_by v new held
+      → left (accepted p.arbiter p.route p.payload offsets) after ≡ tried_by v p offsets new held
+  taken_up None e = ap (λ o. left (accepted p.arbiter p.route p.payload offsets) o.held) e
+  taken_up (Some why) e = absurd (let f = ap (λ o. o.answer) e in let z : ◌≡◌ {A = ℕ} 0 1 = cc in omega arith)
+
   pub turned_away : (v : Option Refusal) (why : Refusal) → outcome (Err why) after ≡ replaced_by v new held
       → left (refused why) after ≡ tried_by v p offsets new held
   turned_away None why e = absurd (let f = ap (λ o. o.answer) e in let z : ◌≡◌ {A = ℕ} 0 1 = cc in omega arith)

@@ -1,5 +1,5 @@
 ghost use Rattle.rules.specs.Arbiters.{fixed, grant};
-ghost use Rattle.rules.specs.Lawful.{fixed_arbitrates};
+ghost use Rattle.std.proofs.Common.{rules};
 
 use super::arbiter::Arbiter;
 use super::sides::{NO_SIDE, contested, first_upward};
@@ -13,7 +13,7 @@ impl Arbiter for Fixed {
 
     ghost meaning = { λ _. grant fixed };
 
-    ghost arbitrates = { λ _. fixed_arbitrates };
+    ghost arbitrates = { Prim.search rules };
 
     fn memory_bits(&self) -> u32 {
         0

@@ -6,15 +6,14 @@ ghost use Rattle.rules.specs.Nearer.{columns_first_routes, rows_first_routes};
 
 use schedule::geometry::Position;
 use schedule::side::Side;
-use std::cmp::Ordering;
 
-// Names the side by which a packet leaves a router on its way to another: the router's own core where it has arrived.
+// Names the side by which a packet leaves a router on its way to another: 0 east, 1 west, 2 south, 3 north, 4 the router's own core.
+// A number and no `Side`: a rule owes nothing at positions that no mesh has, and a `Side` would ask of it one of the five there too.
 pub trait RouteRule {
-    // the number of the side, for each two positions
     ghost meaning: { Self → Position → Position → ℕ };
 
-    fn side(&self, from: Position, to: Position) -> Side
-        ensures { side_number result ≡ meaning self.now from to };
+    fn side(&self, from: Position, to: Position) -> u8
+        ensures { result ≡ meaning self.now from to };
 
     ghost routes: { (a : Self) → Routes (meaning a) };
 }
@@ -28,9 +27,9 @@ impl RouteRule for ColumnsFirst {
 
     ghost routes = { λ _. columns_first_routes };
 
-    fn side(&self, from: Position, to: Position) -> Side {
+    fn side(&self, from: Position, to: Position) -> u8 {
         let by_row = along(from.row, to.row, Side::South, Side::North, Side::Local);
-        along(from.column, to.column, Side::East, Side::West, by_row)
+        along(from.column, to.column, Side::East, Side::West, by_row).into()
     }
 }
 
@@ -43,9 +42,9 @@ impl RouteRule for RowsFirst {
 
     ghost routes = { λ _. rows_first_routes };
 
-    fn side(&self, from: Position, to: Position) -> Side {
+    fn side(&self, from: Position, to: Position) -> u8 {
         let by_column = along(from.column, to.column, Side::East, Side::West, Side::Local);
-        along(from.row, to.row, Side::South, Side::North, by_column)
+        along(from.row, to.row, Side::South, Side::North, by_column).into()
     }
 }
 
@@ -53,9 +52,11 @@ impl RouteRule for RowsFirst {
 fn along(from: u8, to: u8, ahead: Side, behind: Side, level: Side) -> Side
     ensures { side_number result ≡ along_axis from to (side_number ahead) (side_number behind) (side_number level) }
 {
-    match from.cmp(&to) {
-        Ordering::Less => ahead,
-        Ordering::Greater => behind,
-        Ordering::Equal => level,
+    if from < to {
+        ahead
+    } else if from > to {
+        behind
+    } else {
+        level
     }
 }

@@ -1,4 +1,5 @@
 mod First
+mod Held
 mod Kept
 mod Neighbours
 mod Outcomes

@@ -4,7 +4,7 @@ use Rattle.machine.specs.declared.tables.Place.{Place}
 use Rattle.mesh.specs.Heads.{queue_count, ports}
 use Rattle.machine.specs.Moves.{edit}
 use Rattle.mesh.specs.declared.moves.Move.{Move}
-use Rattle.mesh.proofs.Cut.{none_from}
+use Rattle.mesh.proofs.Cut.{none_from, past_of}
 use Rattle.mesh.specs.Ports.{move_at, passes_at}
 use Rattle.mesh.specs.After.{word_after, queue_after, place_after, payload_after}
 use Rattle.mesh.specs.Orderly.{source}
@@ -187,23 +187,23 @@ returns g c =
     let queues = c.args.queues.now in
     let ms = c.args.moves.now in
     let n = queue_count plan in
-    let exact = c.requires.moves_in in
+    let past = past_of plan ms c.requires.moves_in in
     let e : c.loop-k.k ≡ ports plan = omega arith in
     let is = c.loop-k.invariant in
     record {
       queued = is.1 ∙ ap (λ i. edit 0 n (queue_part plan ms i i) queues) e
           ∙ edit_like n (queue_part plan ms (ports plan) (ports plan)) (queue_after plan ms) queues
-          (λ q x _. queue_all plan queues ms exact q x);
+          (λ q x _. queue_all plan queues ms past q x);
       placed = is.2 ∙ ap (λ i. edit 0 (n * plan.sizes.depth) (place_part plan c.args.cycle queues ms i) c.args.places.now) e
           ∙ edit_like (n * plan.sizes.depth) (place_part plan c.args.cycle queues ms (ports plan))
           (place_after plan c.args.cycle queues ms) c.args.places.now
-          (λ s x _. place_all plan queues ms exact c.args.cycle s x);
+          (λ s x _. place_all plan queues ms past c.args.cycle s x);
       loaded = is.3 ∙ ap (λ i. edit 0 (n * plan.sizes.depth) (payload_part plan queues ms c.args.payloads.now i)
           c.args.payloads.now) e
           ∙ edit_like (n * plan.sizes.depth) (payload_part plan queues ms c.args.payloads.now (ports plan))
           (payload_after plan queues ms c.args.payloads.now) c.args.payloads.now
-          (λ s x _. payload_all plan queues ms exact c.args.payloads.now s x);
+          (λ s x _. payload_all plan queues ms past c.args.payloads.now s x);
       worded = is.0 ∙ ap (λ i. edit 0 n (word_part plan ms i) c.args.words.now) e
           ∙ edit_like n (word_part plan ms (ports plan)) (word_after plan ms) c.args.words.now
-          (λ q x _. word_all plan queues ms exact q x);
+          (λ q x _. word_all plan queues ms past q x);
     }

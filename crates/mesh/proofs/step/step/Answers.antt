@@ -57,8 +57,8 @@ deliver-requires g c =
     let run = running plan choose route t c.args.deliveries.now c.args.delivered.now
     (none_refuses _ (c.in_ok-check_step.ensures choose route)) in
     let v = outset plan route t.cycle t.queues t.places in
-    let ms : List (Option Move) = take (c.routers.result * 5) c.choose_all-chosen.result in
-    let e : ms ≡ made v choose t.words = ap₂ take (ap (λ n. n * 5) c.routers.ensures.is) c.choose_all-chosen.ensures in
+    let ms : List (Option Move) = take (c.routers.result * 5) c.choose_all.new.moves in
+    let e : ms ≡ made v choose t.words = ap₂ take (ap (λ n. n * 5) c.routers.ensures.is) c.choose_all.ensures in
     let lawful = lawful_by choose (g.met.A.Arbiter.arbitrates c.args.arbiter.now) in
     let n : length ms / 5 ≡ routers plan = ap (λ xs. length xs / 5) e ∙ ap (λ k. k / 5) (made_length v choose t.words) ∙ mul-div_left (routers plan) (omega arith) in
     let o = orderly_moves plan choose route t run.lent lawful in
@@ -78,8 +78,8 @@ make_moves-requires g c =
     let run = running plan choose route t c.args.deliveries.now c.args.delivered.now
     (none_refuses _ (c.in_ok-check_step.ensures choose route)) in
     let v = outset plan route t.cycle t.queues t.places in
-    let ms : List (Option Move) = take (c.routers.result * 5) c.choose_all-chosen.result in
-    let e : ms ≡ made v choose t.words = ap₂ take (ap (λ n. n * 5) c.routers.ensures.is) c.choose_all-chosen.ensures in
+    let ms : List (Option Move) = take (c.routers.result * 5) c.choose_all.new.moves in
+    let e : ms ≡ made v choose t.words = ap₂ take (ap (λ n. n * 5) c.routers.ensures.is) c.choose_all.ensures in
     let lawful = lawful_by choose (g.met.A.Arbiter.arbitrates c.args.arbiter.now) in
     let O : List (Option Move) → Type 0 = λ ms. Orderly plan c.args.queues.now ms in
     record {
@@ -99,8 +99,8 @@ returns g c =
     let run = running plan choose route t c.args.deliveries.now c.args.delivered.now
     (none_refuses _ (c.in_ok-check_step.ensures choose route)) in
     let v = outset plan route t.cycle t.queues t.places in
-    let ms : List (Option Move) = take (c.routers.result * 5) c.choose_all-chosen.result in
-    let e : ms ≡ made v choose t.words = ap₂ take (ap (λ n. n * 5) c.routers.ensures.is) c.choose_all-chosen.ensures in
+    let ms : List (Option Move) = take (c.routers.result * 5) c.choose_all.new.moves in
+    let e : ms ≡ made v choose t.words = ap₂ take (ap (λ n. n * 5) c.routers.ensures.is) c.choose_all.ensures in
     let lawful = lawful_by choose (g.met.A.Arbiter.arbitrates c.args.arbiter.now) in
     let n = queue_count plan in
     let r : length ms / 5 ≡ routers plan = ap (λ xs. length xs / 5) e ∙ ap (λ k. k / 5) (made_length v choose t.words) ∙ mul-div_left (routers plan) (omega arith) in

@@ -7,7 +7,7 @@ use Rattle.mesh.proofs.Edited.{edit_none}
 use Rattle.mesh.proofs.outset.Outset.choose_all.Goals as goal
 
 pub loop-router-init : goal.loop-router-init
-loop-router-init g c = sym (edit_none _ _)
+loop-router-init g c = c.requires ∙ sym (edit_none _ _)
 
 pub returns : goal.returns
 unfolding moves

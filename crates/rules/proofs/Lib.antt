@@ -1,0 +1,3 @@
+pub mod Contested
+pub mod Everywhere
+pub mod Orders
